@@ -1,5 +1,4 @@
--- Each step keeps the counts of the cabinet and the entropy from falling, and answers their failures only where they
--- rose.
+-- Each step keeps the counts of the cabinet and the entropy from falling, and reports their failures only if they rose.
 use Rattle.block_traits.proofs.Causes.{Rose-earlier}
 use Rattle.eli_base.specs.declared.refusals.Refusal.TheVariants as refusals
 use Rattle.eli_metadata.specs.declared.place.ReadMetaFault.TheVariants.{TooSmall, DeviceFault, Meta}

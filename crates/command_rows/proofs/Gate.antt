@@ -8,7 +8,7 @@ use Rattle.command_rows.specs.Vocabulary.{Command, Refusal}
 
 -- ---- what is attached
 
--- nothing is, or something: the only place where lemmas go by what a drawer does with its disk
+-- nothing is attached, or something is: the only place where lemmas distinguish what a drawer does with its disk
 pub by_attachment : (holding : Holding) (Without : Type 0) (With : Attachment → Type 0) (Claim : Type 0) → (attachment_in holding ≡ None → Without → Claim) → ((a : Attachment) → holding ≡ IsAttached a → With a → Claim)
     → MatchOption (attachment_in holding) Without With → Claim
 by_attachment Idle Without With Claim without with h = without refl h
@@ -57,7 +57,7 @@ pub by_passed_gate : (line : List ℕ) (command : Command) (old : Reach) (reply 
 by_passed_gate line command old reply new Claim row refuses h =
     passed_refusal (refused_by (needs command) old.holding) (GoesThrough line command old reply new) (IsRefused old reply new) Claim row refuses h
 
--- by which refusals
+-- the refusals of the gate
 gate_refusals : (wanted : Needs) (holding : Holding) (refusal : Refusal) → refused_by wanted holding ≡ Some refusal
     → (refusal ≡ refusals.NotAttached) ⊎ (refusal ≡ refusals.StillAttached) ⊎ (refusal ≡ refusals.Suspended) ⊎ (refusal ≡ refusals.NotSuspended)
 gate_refusals AnIdle Idle refusal h = absurd (let none : ⊥ = cc h in none)

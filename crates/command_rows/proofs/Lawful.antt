@@ -80,7 +80,7 @@ nothing_changed line told holding (answers.Refused refusal) old new = inr tt
 nothing_changed line told holding said old new = tt
 
 -- what holds of each line of a verb: why it's refused, what it logs, what it counts and keeps, that nothing refuses it
--- where it finds what it needs, what its drawer becomes, what its disk may hold at each moment, and what it stores
+-- if it finds what it needs, what its drawer becomes, what its disk may hold at each moment, and what it stores
 pub record IsLawful (command : Command) : Type 0 where
   pub why : (line : List ℕ) (old : Reach) (refusal : Refusal) (new : Reach) → GoesThrough line command old (answers.Refused refusal) new → LineHasCause line command old refusal new
   pub did : (line : List ℕ) (old : Reach) (said : Answer) (new : Reach) → GoesThrough line command old said new → LineDid (AreRowEvents line command old.disk old.holding) (stores_last command) said old.disk new.disk

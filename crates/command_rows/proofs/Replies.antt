@@ -8,7 +8,7 @@ use Rattle.command_rows.specs.Rows.{Answer, answer_of, answer_text, digest_or, d
 use Rattle.command_rows.specs.Vocabulary.{Refusal}
 use Rattle.command_rows.specs.verbs.Verify.{verified_or}
 
--- it is no refusal
+-- an answer is no refusal
 abbrev pub IsServed : Answer → Type 0
 IsServed (answers.Refused refusal) = ⊥
 IsServed answer = Unit {0}

@@ -1,4 +1,4 @@
--- Each row is made of sound steps: no count of the cabinet or the entropy falls, their failures are answered only where
+-- Each row is made of sound steps: no count of the cabinet or the entropy falls, their failures are reported only if
 -- they rose, and what is attached keeps a keying that a provider may have.
 use Rattle.eli_base.specs.declared.refusals.Refusal.TheVariants as refusals
 use Rattle.command_rows.specs.Answer as answers
@@ -14,7 +14,7 @@ use Rattle.command_rows.proofs.Replies.{IsServed, Replying, of_reply}
 
 -- ---- what is attached
 
--- what is attached has such a keying after the step where it had before
+-- what is attached has such a keying after the step if it had before
 abbrev pub Keeps : {A : Type 0} → Step A → Type 0
 Keeps {A} R = (old : Reach) (answer : Result A Refusal) (new : Reach) → R old answer new → HoldsKeying old.holding → HoldsKeying new.holding
 

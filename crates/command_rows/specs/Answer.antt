@@ -1,4 +1,4 @@
--- A reply whole: what is answered to one command, as data.
+-- A whole reply: what one command reports, as data.
 use Rattle.std.specs.Prelude.{ℕ, [], ◌∷◌, List, codes, length, take}
 use Rattle.reply_text.specs.Text.{bytes_text, dump_text, list_text, numbers_in, numbers_line, refusal_text, verified_text}
 use Rattle.reply_text.specs.declared.reply.Reply.{Reply}
@@ -6,8 +6,8 @@ use Rattle.reply_text.specs.declared.reply.Reply.TheVariants as replies
 use Rattle.reply_text.specs.declared.rows.Row.{Row}
 use Rattle.command_rows.specs.Vocabulary.{Metadata, Refusal}
 
--- it was done; bytes that were read; a digest; the drawers; the metadata; the tag of a request; the units that are left
--- of one; the offsets of the units that fail, and where the next sweep begins; or it was refused
+-- the command was done; bytes that were read; a digest; the drawers; the metadata; the tag of a request; the units that
+-- are left of one; the offsets of the units that fail, and where the next sweep begins; or the command was refused
 pub data Answer : Type 0 where
   Done : Answer
   Payload : List ℕ → Answer

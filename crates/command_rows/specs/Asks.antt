@@ -85,8 +85,8 @@ FaultOf AsksForNone disk offset a = ⊥
 
 -- ---- the open requests
 
--- for this it is refused by the open requests: as many are open as may be, none has the tag, units are left of it, none
--- is, or one is open
+-- how the open requests refuse what a line asks: as many are open as may be, none has the tag, units of it are left,
+-- none is left, or a request is open
 abbrev pub QueueRefuses : Asks → DiskState → Refusal → Attachment → Type 0
 QueueRefuses AsksNothing disk refusal a = ⊥
 QueueRefuses (AsksToRead sectors) disk refusal a = ⊥

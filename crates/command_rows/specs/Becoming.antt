@@ -23,8 +23,8 @@ lets_go command = (traits_of command).lets_go
 abbrev pub changes_requests : Command → Bool
 changes_requests command = (traits_of command).changes_requests
 
--- it was attached before, with the same slot, keying and read-only state; and but for `submit`, `step` and `reap` the
--- same requests are open
+-- the drawer was attached before, with the same slot, keying and read-only state; and but for `submit`, `step` and
+-- `reap` the same requests are open
 pub record StaysAttached (command : Command) (a : Attachment) (old : Holding) : Type 0 where
   pub before : Attachment
   pub was : old ≡ IsAttached before
@@ -33,7 +33,7 @@ pub record StaysAttached (command : Command) (a : Attachment) (old : Holding) : 
   pub readonly : a.readonly ≡ before.readonly
   pub queue : changes_requests command ≡ false → a.queue ≡ before.queue
 
--- it was idle, and `attach` was done, with a key that opens
+-- the drawer was idle, and `attach` was done, with a key that opens
 pub record IsOpened (line : List ℕ) (command : Command) (a : Attachment) (old : Reach) (answer : Answer) : Type 0 where
   pub prov : Span
   pub readonly : Bool
@@ -44,8 +44,8 @@ pub record IsOpened (line : List ℕ) (command : Command) (a : Attachment) (old 
   pub was : old.holding ≡ Idle
   pub opens : OpensWith line slot readonly words old a
 
--- it was suspended, and `resume` was done, with a key that opens the master key of which the digest was kept; the disk
--- logged nothing
+-- the drawer was suspended, and `resume` was done, with a key that opens the master key of which the digest was kept;
+-- the disk logged nothing
 pub record BecomesResumed (line : List ℕ) (command : Command) (a : Attachment) (old : Reach) (answer : Answer) (new : Reach) : Type 0 where
   pub prov : Span
   pub words : KeyWords
@@ -59,12 +59,12 @@ pub record BecomesResumed (line : List ℕ) (command : Command) (a : Attachment)
 
 -- ---- suspended
 
--- it was suspended before, the same is kept of its provider, and the disk logged nothing
+-- the drawer was suspended before, the same is kept of its provider, and the disk logged nothing
 pub record StaysSuspended (kept : Kept) (old new : Reach) : Type 0 where
   pub was : old.holding ≡ IsSuspended kept
   pub logs : Logs [] old.disk new.disk
 
--- it was attached, and `suspend` kept this of its provider; the disk was flushed, or failed in that
+-- the drawer was attached, and `suspend` kept this of its provider; the disk was flushed, or failed in that
 pub record IsSuspendedBy (command : Command) (kept : Kept) (old new : Reach) : Type 0 where
   pub prov : Span
   pub said : command ≡ commands.Suspend prov

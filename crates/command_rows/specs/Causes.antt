@@ -8,7 +8,7 @@ use Rattle.command_rows.specs.Turn.{reach}
 use Rattle.command_rows.specs.Vocabulary.{Command, DiskState, Refusal, Rose, Span, bytes_at, has_tags, media, provider_of}
 use Rattle.command_rows.specs.verbs.{verb_of}
 
--- whether a command may answer that there was no memory
+-- whether a command may report that there was no memory
 abbrev pub may_lack_memory : Command → Bool
 may_lack_memory command = (traits_of command).lacks_memory
 
@@ -47,7 +47,7 @@ pub record LinePassesEnd (line : List ℕ) (command : Command) (disk : DiskState
 abbrev pub FindsBadUnit : List ℕ → Command → DiskState → ℕ → Attachment → Type 0
 FindsBadUnit line command disk offset a = FaultOf (asks_of line command) disk offset a
 
--- for this a line is refused by the open requests
+-- how the open requests refuse a line
 abbrev pub FindsInQueue : List ℕ → Command → DiskState → Refusal → Attachment → Type 0
 FindsInQueue line command disk refusal a = QueueRefuses (asks_of line command) disk refusal a
 
@@ -84,7 +84,7 @@ pub record CausedAt (line : List ℕ) (command : Command) (refusal : Refusal) (o
   pub cause : LineHasCause line command (reach before old) refusal (reach after new)
 
 -- the refusal of a line has its cause: a line without a provider lacked memory, one that names no drawer is refused for
--- that, and else the cause is in the drawer that it names
+-- that, and otherwise the cause is in the drawer that it names
 abbrev pub CausedBy : Option Span → List ℕ → Command → Refusal → World → World → Type 0
 CausedBy named line command refusal old new =
     MatchOption named (refusal ≡ refusals.NoMemory)

@@ -1,13 +1,13 @@
--- The counts of the cabinet and the entropy through a line: none falls, and a failure of theirs is answered only where
--- its count rose.
+-- The counts of the cabinet and the entropy through a line: none falls, and a failure of theirs is reported only if its
+-- count rose.
 use Rattle.std.specs.Prelude.{◌≡◌, ◌⊎◌, ◌≤◌}
 use Rattle.eli_base.specs.declared.refusals.Refusal.TheVariants as refusals
 use Rattle.command_rows.specs.Answer as answers
 use Rattle.command_rows.specs.Rows.{Answer, World}
 use Rattle.command_rows.specs.Vocabulary.{CabinetState, EntropyState, Refusal, Rose, passphrase_limit}
 
--- Where this is refused, the count of such failures rose. That a passphrase is longer than its own limit is no miss of
--- the cabinet. Each refusal is named, so that a new one has to be decided on.
+-- If a line is refused with this, the count of such failures rose. That a passphrase is longer than its own limit is no
+-- miss of the cabinet. Each refusal is named, so that a new one has to be decided on.
 abbrev pub CountsRefusal : CabinetState → EntropyState → Refusal → CabinetState → EntropyState → Type 0
 CountsRefusal cabinet entropy (refusals.Usage word reason) cabinet' entropy' = Unit {0}
 CountsRefusal cabinet entropy refusals.UnknownProvider cabinet' entropy' = Unit {0}
@@ -62,7 +62,7 @@ abbrev pub CountsAnswer : CabinetState → EntropyState → Answer → CabinetSt
 CountsAnswer cabinet entropy (answers.Refused refusal) cabinet' entropy' = CountsRefusal cabinet entropy refusal cabinet' entropy'
 CountsAnswer cabinet entropy answer cabinet' entropy' = Unit {0}
 
--- no count falls, and what is answered is counted
+-- no count falls, and a failure that is reported is counted
 pub record CountsFailures (old : World) (answer : Answer) (new : World) : Type 0 where
   pub faults : old.cabinet.faults ≤ new.cabinet.faults
   pub misses : old.cabinet.misses ≤ new.cabinet.misses

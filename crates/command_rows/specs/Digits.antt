@@ -10,7 +10,7 @@ decoded (Err fault) = []
 abbrev pub bytes_spelled : List ℕ → List ℕ
 bytes_spelled digits = decoded (decode_of digits)
 
--- they spell bytes, at most as many as a request may have
+-- the digits spell bytes, at most as many as a request may have
 pub record SpellsBytes (digits : List ℕ) : Type 0 where
   pub spells : IsOk (decode_of digits)
   pub bound : length digits ≤ 262144

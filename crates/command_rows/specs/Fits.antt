@@ -1,4 +1,4 @@
--- What a line finds where nothing refuses it, in a drawer and a cabinet that tell what they hold.
+-- What a line finds if nothing refuses it, in a drawer and a cabinet that tell what they hold.
 use Rattle.std.specs.Prelude.{List, None, Some, slice_get, ℕ, ◌≡◌}
 use Rattle.command_rows.specs.Gate.{needs, refused_by}
 use Rattle.command_rows.specs.Rows.{DrawerState, Reach, World, place_of}
@@ -6,11 +6,11 @@ use Rattle.command_rows.specs.Turn.{reach}
 use Rattle.command_rows.specs.Vocabulary.{Command, Rose}
 use Rattle.command_rows.specs.verbs.{verb_of}
 
--- what the row of its verb finds then
+-- the row of the line's verb finds what it needs
 abbrev pub FitsRow : List ℕ → Command → Reach → Type 0
 FitsRow line command old = (verb_of command).fits line old
 
--- the drawer is such a one as the verb needs, and in it the row finds such
+-- the drawer is in the state that the verb needs, and the row finds what it needs there
 pub record Fits (line : List ℕ) (command : Command) (old : Reach) : Type 0 where
   pub gate : refused_by (needs command) old.holding ≡ None
   pub row : FitsRow line command old
@@ -21,7 +21,7 @@ pub record FailsNowhere (old new : Reach) : Type 0 where
   pub cabinet : ¬ Rose old.cabinet.faults new.cabinet.faults
   pub entropy : ¬ Rose old.entropy.faults new.entropy.faults
 
--- the drawer with this name finds such, and nothing fails
+-- `Finds` holds at the drawer with this name, and nothing fails
 pub record FindsAt (name : List ℕ) (Finds : Reach → Type 0) (old new : World) : Type 0 where
   pub place : ℕ
   pub named : place_of name old.drawers ≡ Some place

@@ -1,5 +1,5 @@
--- Why a drawer isn't such a one as a verb needs, by what it does with its disk: that is seen to before the row of the
--- verb.
+-- Why a drawer isn't in the state that a verb needs, by what it does with its disk. This is checked before the row of
+-- the verb.
 use Rattle.std.specs.Prelude.{Option, Some, None}
 pub use Rattle.command_words.specs.Traits.{job_writes, needs, traits_of}
 pub use Rattle.command_words.specs.declared.verbs.Needs.{Needs}
@@ -8,7 +8,7 @@ use Rattle.eli_base.specs.declared.refusals.Refusal.TheVariants as refusals
 use Rattle.command_rows.specs.Rows.{Holding, Idle, IsAttached, IsSuspended}
 use Rattle.command_rows.specs.Vocabulary.{Refusal}
 
--- why a drawer isn't such a one, if it isn't
+-- why a drawer isn't in the state that a verb needs, if it isn't
 abbrev pub refused_by : Needs → Holding → Option Refusal
 refused_by AnIdle Idle = None
 refused_by AnIdle (IsAttached a) = Some refusals.StillAttached

@@ -1,4 +1,4 @@
--- For what the metadata, the files of a key or a backup, the image and the words of a line are like, it is refused.
+-- Refusals for what the metadata, the files of a key or a backup, the image and the words of a line are like.
 use Rattle.std.specs.Prelude.{List, length, ℕ}
 use Rattle.eli_base.specs.declared.refusals.Refusal.TheVariants as refusals
 use Rattle.command_rows.specs.Rows.{Holding, Reach}
@@ -13,8 +13,8 @@ FindsBadFile line command holding old refusal new = (verb_of command).bad_file l
 
 -- ---- a line
 
--- A refusal for what the metadata, the files, the image or the words are like. The others have causes of their own: the
--- words alone, the drawer that isn't there, what it does with its disk, what is asked of the provider, a failure, a
+-- A refusal for what the metadata, the files, the image or the words are like. Other refusals have causes of their own:
+-- the words alone, the drawer that isn't there, what it does with its disk, what is asked of the provider, a failure, a
 -- file, and want of memory. Each refusal is named, so that a new one has to be decided on.
 abbrev pub IsGround : Refusal → Type 0
 IsGround (refusals.Usage word reason) = ⊥
@@ -66,6 +66,6 @@ IsGround (refusals.BadPlace place media) = Unit {0}
 IsGround refusals.NotAuthenticated = ⊥
 IsGround (refusals.BadPlaceFile word length) = Unit {0}
 
--- for what it finds and is told a line is refused
+-- a line is refused for what it finds and is told
 abbrev pub HasGround : List ℕ → Command → Reach → Refusal → Type 0
 HasGround line command old refusal = (verb_of command).grounds line old refusal

@@ -27,8 +27,8 @@ pub record AreFirst (Row : List Event → Type 0) (events : List Event) : Type 0
 abbrev pub stores_last : Command → Bool
 stores_last command = (traits_of command).stores_last
 
--- the events of a line that is refused: none; where the disk failed, the first ones; and where the file that is stored
--- last was refused, all or none
+-- the events of a line that is refused: none; if the disk failed, the first ones; and if the file that is stored last
+-- was refused, all or none
 abbrev pub BreaksOff : (List Event → Type 0) → Bool → Refusal → List Event → Type 0
 BreaksOff Row stores refusals.DeviceFault events = (events ≡ []) ⊎ AreFirst Row events
 BreaksOff Row true (refusals.CabinetFault word) events = (events ≡ []) ⊎ Row events
@@ -48,7 +48,7 @@ pub record StepsBy (line : List ℕ) (command : Command) (answer : Answer) (old 
   pub logs : Logs events old.disk new.disk
   pub of_line : EventsBy (AreRowEvents line command old.disk old.holding) (stores_last command) answer events
 
--- the drawer at a place does, and the others stay as they are and where they are
+-- the drawer at a place steps by the line, and the others stay as they are and where they are
 pub record StepsAt (line : List ℕ) (command : Command) (answer : Answer) (old new : List DrawerState) (place : ℕ) : Type 0 where
   pub before : DrawerState
   pub found : slice_get old place ≡ Some before
@@ -71,7 +71,7 @@ ChangesBy false line command answer old new place = StepsAt line command answer 
 abbrev pub place_named : List ℕ → Command → List DrawerState → Option ℕ
 place_named line command drawers = option_and_then (λ prov. place_of (bytes_at line prov) drawers) (provider_of command)
 
--- the drawer at this place changes so; where there is none, nothing does
+-- the drawer at this place changes so; if there is none, nothing does
 abbrev pub OnlyAt : List ℕ → Command → Answer → List DrawerState → List DrawerState → Option ℕ → Type 0
 OnlyAt line command answer old new None = new ≡ old
 OnlyAt line command answer old new (Some place) = ChangesBy (takes_out command) line command answer old new place

@@ -14,7 +14,7 @@ with_queue queue a = record { slot = a.slot; keying = a.keying; readonly = a.rea
 abbrev pub HasRequest : Attachment → ℕ → DiskState → Type 0
 HasRequest a tag disk = IsOpenRequest a.keying (media a.keying disk) tag a.queue
 
--- There is such a request; or its lack is refused. Nothing changes.
+-- An open request has the tag, and is one of the provider, or the line is refused. Nothing changes.
 abbrev pub NeedsRequest : Attachment → ℕ → Reach → Result (Unit {0}) Refusal → Reach → Type 0
 NeedsRequest a tag old (Ok done) new = HasRequest a tag old.disk × (new ≡ old)
 NeedsRequest a tag old (Err (refusals.NoRequest named)) new = (named ≡ tag) × (¬ HasRequest a tag old.disk) × (new ≡ old)

@@ -1,4 +1,4 @@
--- The answers to a line, by what its row answers.
+-- The reply to a line, by the answer of its row.
 use Rattle.std.specs.Prelude.{Err, List, None, Ok, Option, Result, Some, ℕ, ◌≡◌}
 use Rattle.command_rows.specs.Answer.{Answer}
 use Rattle.command_rows.specs.Answer as answers
@@ -35,7 +35,7 @@ reaped_or (Ok (Some bytes)) = answers.Payload bytes
 reaped_or (Ok None) = answers.Done
 reaped_or (Err refusal) = answers.Refused refusal
 
--- the row was gone through, and what it answers is answered so
+-- the row was gone through, and its answer is replied like this
 pub record Replies {A : Type 0} (answer_to : Result A Refusal → Answer) (Row : Reach → Result A Refusal → Reach → Type 0) (old : Reach) (reply : Answer) (new : Reach) : Type 0 where
   pub answer : Result A Refusal
   pub row : Row old answer new

@@ -37,7 +37,7 @@ abbrev pub or_refusal : {A F : Type 0} → (F → Refusal) → Result A F → Re
 or_refusal refusal_of (Ok value) = Ok value
 or_refusal refusal_of (Err fault) = Err (refusal_of fault)
 
--- that it was done, whatever the value is
+-- success without the value, or the refusal
 abbrev pub without_value : {A : Type 0} → Result A Refusal → Result (Unit {0}) Refusal
 without_value (Ok value) = Ok tt
 without_value (Err refusal) = Err refusal
@@ -47,7 +47,7 @@ pub record KeepsOutside (old new : Reach) : Type 0 where
   pub cabinet : new.cabinet ≡ old.cabinet
   pub entropy : new.entropy ≡ old.entropy
 
--- what is read of the disk is answered so, and all else stays
+-- the answer is what is read of the disk, and all else stays
 pub record ReadsDisk {A : Type 0} (Answers : DiskState → Result A Refusal → DiskState → Type 0) (old : Reach) (answer : Result A Refusal) (new : Reach) : Type 0 where
   pub reads : Answers old.disk answer new.disk
   pub holding : new.holding ≡ old.holding
@@ -55,7 +55,7 @@ pub record ReadsDisk {A : Type 0} (Answers : DiskState → Result A Refusal → 
 
 -- ---- a device sector is read by its number
 
--- what the disk gives there, where it tells its content, in one read; or that read failed
+-- what the disk gives there in one read, if it tells its content; or that read failed
 abbrev pub DeviceSectorAnswer : ℕ → DiskState → Result (List ℕ) Refusal → DiskState → Type 0
 DeviceSectorAnswer place old (Ok bytes) new = (length bytes ≡ 512) × Gives old place bytes × Logs [] old new × Counted 1 old.reads new.reads
 DeviceSectorAnswer place old (Err refusals.DeviceFault) new = FailsIn [] old new × Counted 1 old.reads new.reads
@@ -77,7 +77,7 @@ ReadsLastSector old answer new = ReadsDisk Reads old answer new
 
 -- ---- the metadata are admitted for an image of this size and for the slot that is named
 
--- what was found, unless a further check has a fault: the first fault comes
+-- what was found, unless a further check has a fault; of two faults the first counts
 abbrev pub unless_faulty : {A : Type 0} → Result A MetaFault → Result (Unit {0}) MetaFault → Result A MetaFault
 unless_faulty (Ok value) (Ok done) = Ok value
 unless_faulty (Ok value) (Err fault) = Err fault
@@ -87,7 +87,7 @@ unless_faulty (Err fault) check = Err fault
 abbrev pub settings_for_size : Metadata → ℕ → Result Settings MetaFault
 settings_for_size m sectors = unless_faulty (supported m) (size_matches m sectors)
 
--- and besides a slot is set, and so is the one that is named
+-- the metadata are supported and of the image's size, a slot is set, and so is the one that is named
 abbrev pub admitted : Metadata → ℕ → Option ℕ → Result Settings Refusal
 admitted m sectors slot = or_refusal refusal_of (unless_faulty (settings_for_size m sectors) (slot_matches m slot))
 
@@ -137,7 +137,7 @@ pub record StoresFile (name bytes : List ℕ) (old new : CabinetState) : Type 0 
   pub faults : old.faults ≤ new.faults
   pub misses : old.misses ≤ new.misses
 
--- the refusal of the file that the word names, by what a store of it answers
+-- the refusal of the file that the word names, by the fault of the store
 abbrev pub store_refusal : ℕ → StoreFault → Refusal
 store_refusal word store.Failed = refusals.CabinetFault word
 store_refusal word store.NoMemory = refusals.NoMemory
@@ -172,7 +172,7 @@ attachment_by s readonly found = record {
   queue = [];
 }
 
--- a slot that is asked for opened
+-- the attachment if a slot that is asked for opened, else the refusal of a wrong key
 abbrev pub or_wrong_key : Settings → Bool → Option (MasterKey × ℕ) → Result Attachment Refusal
 or_wrong_key s readonly None = Err refusals.WrongKey
 or_wrong_key s readonly (Some found) = Ok (attachment_by s readonly found)
@@ -200,7 +200,7 @@ DoesEvents events old (Ok done) new = Logs events old new
 DoesEvents events old (Err refusals.DeviceFault) new = FailsIn events old new
 DoesEvents events old (Err refusal) new = ⊥
 
--- the disk is flushed and not read, and the drawer is idle then, also where the flush failed
+-- the disk is flushed and not read, and the drawer is idle then, even if the flush failed
 pub record Detaches (old : Reach) (answer : Result (Unit {0}) Refusal) (new : Reach) : Type 0 where
   pub flushes : DoesEvents (Flush ∷ []) old.disk answer new.disk
   pub unasked : new.disk.reads ≡ old.disk.reads
@@ -233,7 +233,7 @@ abbrev pub NeedsSectors : Attachment → ℕ → ℕ → Reach → Result (Unit 
 NeedsSectors a sector count old answer new =
     DecidesBySize (λ size. in_range sector count (media_sectors a.keying.auth a.keying.sectorsize (512 * size))) old answer new
 
--- what the sectors read as, where the disk tells that, each unit of which was read once; or the first unit whose tag
+-- what the sectors read as, if the disk tells its content, each unit being read once; or the first unit whose tag
 -- differs; or the disk failed, all units before having been accepted
 abbrev pub SectorsAnswer : Keying → ℕ → ℕ → DiskState → Result (List ℕ) Refusal → DiskState → Type 0
 SectorsAnswer k sector count old (Ok bytes) new =

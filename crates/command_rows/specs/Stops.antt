@@ -13,7 +13,7 @@ use Rattle.command_rows.specs.verbs.{verb_of}
 abbrev pub ChangesMetadata : List ℕ → Command → Option Files → Holding → DiskState → Bool → DiskState → Type 0
 ChangesMetadata line command told holding old done new = (verb_of command).changes line told holding old done new
 
--- one that is refused changes them so up to where it stopped, or leaves the disk's content as it is
+-- a line that is refused changes the metadata so up to where it stopped, or leaves the disk's content as it is
 abbrev pub ChangesOrStays : (DiskState → Bool → DiskState → Type 0) → Answer → DiskState → DiskState → Type 0
 ChangesOrStays Changes (answers.Refused refusal) old new = (new.content ≡ old.content) ⊎ Changes old false new
 ChangesOrStays Changes answer old new = Changes old true new

@@ -13,7 +13,7 @@ pub record StoresNone (old new : CabinetState) : Type 0 where
   pub files : new.files ≡ old.files
   pub stores : new.stores ≡ old.stores
 
--- one store is made, and the files stay but for the one of this name; where the store failed, all do
+-- one store is made, and the files stay but for the one of this name; if the store failed, all do
 pub record StoresOne (name : List ℕ) (old new : CabinetState) : Type 0 where
   pub files : (new.files ≡ old.files) ⊎ ((bytes : List ℕ) × (new.files ≡ stored name bytes old.files))
   pub stores : Counted 1 old.stores new.stores

@@ -19,16 +19,16 @@ use Rattle.command_rows.specs.verbs.{verb_of}
 
 -- ---- the row
 
--- the row of a command that names a drawer, which stays in the list, of a drawer that is such a one as the verb needs
+-- the row of a command that names a drawer, which stays in the list and is in the state that the verb needs
 abbrev pub GoesThrough : List ℕ → Command → Reach → Answer → Reach → Type 0
 GoesThrough line command old reply new = (verb_of command).goes_through line old reply new
 
--- the drawer isn't such a one, and nothing changes
+-- the drawer isn't in that state: the command is refused, and nothing changes
 pub record IsRefused (old : Reach) (reply : Answer) (new : Reach) (refusal : Refusal) : Type 0 where
   pub refused : reply ≡ answers.Refused refusal
   pub unchanged : new ≡ old
 
--- it is refused so, or goes through the row
+-- a command is refused for its drawer's state, or goes through the row
 abbrev pub Serves : List ℕ → Command → Reach → Answer → Reach → Type 0
 Serves line command old reply new = MatchOption (refused_by (needs command) old.holding) (GoesThrough line command old reply new) (IsRefused old reply new)
 
@@ -111,7 +111,7 @@ pub record ShowsOf (disk : DiskState) (shown : Option (List Event)) : Type 0 whe
   pub shows : is_some shown ≡ disk.shows
   pub history : IsHistory disk.content shown
 
--- only an idle drawer shows some
+-- only an idle drawer shows events
 abbrev pub ShowsIf : Bool → DiskState → Option (List Event) → Type 0
 ShowsIf true disk shown = ShowsOf disk shown
 ShowsIf false disk shown = shown ≡ None
@@ -124,6 +124,6 @@ pub record ShowsAt (drawers : List DrawerState) (shown : Option (List Event)) (p
   pub found : slice_get drawers place ≡ Some drawer
   pub events : ShowsBy drawer.holding drawer.disk shown
 
--- the events that the disk of the named drawer shows, where it is idle, or none
+-- the events that the disk of the named drawer shows, if it is idle, or none
 abbrev pub ShowsEvents : List ℕ → List DrawerState → Option (List Event) → Type 0
 ShowsEvents name drawers shown = MatchOption (place_of name drawers) (shown ≡ None) (ShowsAt drawers shown)

@@ -27,11 +27,11 @@ pub data RunKind : Type 0 where
   OfSweep : Span → Span → ℕ → Bool → RunKind
   OfOther : RunKind
 
--- its row, of a drawer that it needs; what the row finds where nothing refuses it; for what it finds and is told a line
--- is refused; for which file; the events of a line that is served to its end; what it changes in the metadata on the
--- disk, by the files that are told and what the drawer did with its disk, whether or not it's done; the place of the
--- name of the file that it stores, if it stores one; what it asks of an attached provider; what it places there; and
--- what more is said of it over a run
+-- a verb: its row, for a drawer in the state that it needs; what the row finds if nothing refuses it; what a line is
+-- refused for of what it finds and is told; which file it is refused for; the events of a line that is served to its
+-- end; what it changes in the metadata on the disk, by the files that are told and what the drawer did with its disk,
+-- whether or not it's done; the place of the name of the file that it stores, if it stores one; what it asks of an
+-- attached provider; what it places there; and what more is said of it over a run
 pub record Verb : Type 1 where
   pub goes_through : List ℕ → Reach → Answer → Reach → Type 0
   pub fits : List ℕ → Reach → Type 0
@@ -46,19 +46,19 @@ pub record Verb : Type 1 where
 
 -- ---- what many verbs have
 
--- nothing that it finds refuses it
+-- nothing that a line finds refuses it
 abbrev pub NoGround : List ℕ → Reach → Refusal → Type 0
 NoGround line old refusal = ⊥
 
--- no file refuses it
+-- no file refuses a line
 abbrev pub NoBadFile : List ℕ → Holding → CabinetState → Refusal → CabinetState → Type 0
 NoBadFile line holding old refusal new = ⊥
 
--- it logs nothing
+-- a line logs nothing
 abbrev pub NoEvents : List ℕ → DiskState → Holding → List Event → Type 0
 NoEvents line disk holding events = events ≡ []
 
--- it flushes, and no more
+-- a line flushes the disk, and logs no more
 abbrev pub OneFlush : List ℕ → DiskState → Holding → List Event → Type 0
 OneFlush line disk holding events = events ≡ Flush ∷ []
 
@@ -66,7 +66,7 @@ OneFlush line disk holding events = events ≡ Flush ∷ []
 abbrev pub NoChanges : List ℕ → Option Files → Holding → DiskState → Bool → DiskState → Type 0
 NoChanges line told holding old done new = Unit {0}
 
--- it asks nothing
+-- a line asks nothing of the provider
 abbrev pub asks_nothing : List ℕ → Asks
 asks_nothing line = AsksNothing
 

@@ -27,7 +27,7 @@ pub data Holding : Type 0 where
   IsAttached : Attachment → Holding
   IsSuspended : Kept → Holding
 
--- whether it does nothing
+-- whether a drawer does nothing with its disk
 abbrev pub is_idle : Holding → Bool
 is_idle Idle = true
 is_idle (IsAttached a) = false
@@ -39,7 +39,7 @@ attachment_in Idle = None
 attachment_in (IsAttached a) = Some a
 attachment_in (IsSuspended kept) = None
 
--- it is attached, with something of which this holds
+-- a drawer is attached, with something of which this holds
 abbrev pub AttachedWith : Holding → (Attachment → Type 0) → Type 0
 AttachedWith holding Holds = MatchOption (attachment_in holding) ⊥ Holds
 
@@ -49,7 +49,7 @@ kept_in Idle = None
 kept_in (IsAttached a) = None
 kept_in (IsSuspended kept) = Some kept
 
--- it is suspended, and this holds of what is kept
+-- a drawer is suspended, and this holds of what is kept
 abbrev pub SuspendedWith : Holding → (Kept → Type 0) → Type 0
 SuspendedWith holding Holds = MatchOption (kept_in holding) ⊥ Holds
 
@@ -69,7 +69,7 @@ abbrev pub NamesDiffer : List DrawerState → Type 0
 NamesDiffer [] = Unit {0}
 NamesDiffer (drawer ∷ drawers) = (place_of drawer.name drawers ≡ None) × NamesDiffer drawers
 
--- it is one of the drawers
+-- this is one of the drawers
 abbrev pub IsAmong : List DrawerState → DrawerState → Type 0
 IsAmong drawers drawer = (place : ℕ) × (slice_get drawers place ≡ Some drawer)
 
@@ -87,7 +87,7 @@ pub record World : Type 0 where
   pub cabinet : CabinetState
   pub entropy : EntropyState
 
--- what a command may change where it names a drawer: its disk, what the drawer does with it, the cabinet and the
+-- what a command may change at the drawer that it names: its disk, what the drawer does with it, the cabinet and the
 -- entropy
 pub record Reach : Type 0 where
   pub disk : DiskState

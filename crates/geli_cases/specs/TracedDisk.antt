@@ -1,4 +1,4 @@
--- What a disk tells that notes its events.
+-- What a disk that notes its events tells.
 use Rattle.block_traits.specs.Disk.{DiskState}
 use Rattle.crash_disk.specs.SparseDisk as sparse_disk
 use Rattle.geli_cases.specs.declared.traced_disk.TracedDisk.{TracedDisk}

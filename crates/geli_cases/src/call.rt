@@ -34,8 +34,8 @@ pub fn add_drawer(
     Ok(into.push(Drawer { name, disk })?)
 }
 
-/// Makes the program's run over the disks, in order, and answers the number of its status. The disks of the case note
-/// which of them are on the shelf still.
+/// Makes the program's run over the disks, in order, and returns the number of its status. The disks of the case note
+/// which of them are still on the shelf.
 pub fn top_call(
     alloc: Global,
     drawers: Vec<Drawer>,
@@ -69,7 +69,7 @@ pub fn top_call(
     }
 }
 
-/// What a shelf that has these drawers answers to a further disk of this name, or none where it takes that.
+/// Why a shelf with these drawers refuses a further disk of this name, or none if it takes the disk.
 pub fn refusal_of(
     alloc: Global,
     drawers: &[Drawer],
@@ -85,7 +85,7 @@ pub fn refusal_of(
     }
 }
 
-// How the transcript tells that the shelf refused a disk.
+// How the transcript says that the shelf refused a disk.
 fn refusal(fault: AddFault) -> &'static str {
     match fault {
         AddFault::Full => "Full",

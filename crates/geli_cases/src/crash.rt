@@ -20,7 +20,7 @@ pub enum Crashed {
     BadPick(usize),
     /// This torn sector is bad.
     BadTorn(usize),
-    /// The moment lies behind the last event.
+    /// The moment lies beyond the last event.
     Beyond,
 }
 
@@ -39,7 +39,7 @@ impl Choices {
         Ok(self.picks.push(Pick { n, place })?)
     }
 
-    /// Adds a torn sector: the bytes of the line, with zeros behind them.
+    /// Adds a torn sector: the bytes of the line, with zeros after them.
     pub fn tear(&mut self, alloc: Global, line: &mut Line<'_>) -> Result<(), Fault> {
         let n = line.number();
         let mut front = Vec::new(alloc);
@@ -54,7 +54,7 @@ impl Choices {
         Ok(self.torn.push(Torn { n, bytes })?)
     }
 
-    /// What a crash leaves after so many events, by what was gathered. That is then forgotten.
+    /// What a crash leaves after so many events, by what was gathered, which is then forgotten.
     pub fn survivor(
         &mut self,
         alloc: Global,

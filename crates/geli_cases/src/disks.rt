@@ -1,4 +1,4 @@
-//! The disks of a case between its runs. A run has disks of their own, and its events are then done to these.
+//! The disks of a case between its runs. A run has disks of its own, and its events are done to these afterwards.
 use crate::call::{Drawer, add_drawer};
 use crate::fault::Fault;
 use crate::layers::{Layer, LayerKind, Layers, behind, joined, opened};
@@ -13,7 +13,7 @@ use std::alloc::Global;
 use std::mem;
 use std::rc::Rc;
 
-// A disk has fewer sectors.
+// A disk has fewer sectors than this.
 const MOST_SECTORS: u64 = 1 << 44;
 // Whether looks give anything.
 const LOOKS: [(&str, bool); 2] = [("on", true), ("off", false)];
@@ -24,7 +24,7 @@ pub struct Disks {
     disks: Vec<CaseDisk>,
     layers: Layers,
     shelf: Vec<String>,
-    // Whether a line named the disks on the shelf; else all are there, and no layer is.
+    // Whether a line named the disks on the shelf; if not, all disks are there, and no layer is.
     is_named: bool,
     // Whether the disks of a run give looks.
     gives_looks: bool,
@@ -36,9 +36,9 @@ pub struct CaseDisk {
     name: String,
     // Its history is that of the last run, if nothing was changed since.
     disk: SparseDisk,
-    // What the run that goes on does to it, if it is on the shelf.
+    // What the current run does to the disk, if it is on the shelf.
     trace: Option<SharedTrace>,
-    // Whether it was on the shelf still as the last run ended.
+    // Whether the disk was still on the shelf when the last run ended.
     is_kept: bool,
 }
 
@@ -183,15 +183,15 @@ impl Disks {
         Ok(drawers)
     }
 
-    /// Notes which disks are on the shelf of a run still, while that is there.
+    /// Notes which disks are still on the shelf of a run, while the shelf exists.
     pub fn note_kept(&mut self) {
         for disk in self.disks.iter_mut() {
             disk.is_kept = disk.is_in_use();
         }
     }
 
-    /// Keeps and tells what a run did to each disk on the shelf. What left the shelf leaves the case, but for the disks
-    /// below a layer.
+    /// Keeps and prints what a run did to each disk on the shelf. What left the shelf leaves the case, but for the
+    /// disks below a layer.
     pub fn settle(&mut self, alloc: Global, transcript: &mut Transcript) -> Result<(), Fault> {
         let names = mem::replace(&mut self.shelf, Vec::new(alloc));
         for name in names {
@@ -202,7 +202,7 @@ impl Disks {
         Ok(())
     }
 
-    // The same for one name, and whether it is still on the shelf.
+    // Keeps and prints what a run did to the disk of one name, and returns whether it is still on the shelf.
     fn settle_drawer(
         &mut self,
         alloc: Global,
@@ -251,7 +251,7 @@ impl CaseDisk {
         Ok(TracedDisk::new(disk, trace, lending.gives_looks))
     }
 
-    // Whether the run has the disk still.
+    // Whether the run still has the disk.
     fn is_in_use(&self) -> bool {
         match &self.trace {
             Some(trace) => Rc::strong_count(trace) > 1,
@@ -259,7 +259,7 @@ impl CaseDisk {
         }
     }
 
-    // Keeps and tells what a run did.
+    // Keeps and prints what a run did.
     fn settle(&mut self, alloc: Global, transcript: &mut Transcript) -> Result<(), Fault> {
         let events = events_of(alloc, self.trace.take())?;
         transcript.events(self.name.as_str(), &events);
@@ -285,7 +285,7 @@ impl CaseDisk {
         Ok(())
     }
 
-    // Gives a sector these bytes, where the last run is forgotten.
+    // Gives a sector these bytes. The last run has to be forgotten before.
     fn put(&mut self, n: u64, sector: &Sector) -> Result<(), Fault> {
         if n < self.disk.sectors() {
             Ok(self.disk.put(n, sector)?)
@@ -355,7 +355,7 @@ fn anew(alloc: Global, disk: &SparseDisk) -> Result<SparseDisk, Fault> {
     Ok(disk.at(alloc, disk.history().len())?)
 }
 
-// Lays what events wrote on a disk, as far as this has the sectors.
+// Lays what events wrote on a disk, as far as it has the sectors.
 fn lay(events: &[Event], disk: &mut SparseDisk) -> Result<(), Fault> {
     for event in events {
         if let Event::Write { n, bytes } = event {

@@ -26,7 +26,7 @@ impl Files {
         }
     }
 
-    /// Makes or replaces the file that a line tells.
+    /// Makes or replaces the file that a line describes.
     pub fn tell(&mut self, alloc: Global, form: Form, line: &mut Line<'_>) -> Result<(), Fault> {
         let name = line.word();
         let mut bytes = Vec::new(alloc);
@@ -77,7 +77,7 @@ impl Files {
         Ok(cabinet)
     }
 
-    /// Keeps the files that a run left, and tells those that changed or came.
+    /// Keeps the files that a run left, and prints those that changed or came.
     pub fn settle(
         &mut self,
         alloc: Global,

@@ -16,7 +16,7 @@ use user_key::{Components, PassPart, UserKey, derive};
 pub enum LayerKind {
     /// So many writes may wait for it.
     Behind,
-    /// A second disk stands behind it.
+    /// A second disk follows it.
     Join,
     /// It has a provider.
     Provider,
@@ -47,7 +47,7 @@ impl Layers {
         }
     }
 
-    /// Adds or replaces the layer that a line tells.
+    /// Adds or replaces the layer that a line describes.
     pub fn tell(
         &mut self,
         alloc: Global,
@@ -90,7 +90,7 @@ impl Layers {
         }
     }
 
-    /// The layer of this name leaves the case.
+    /// Takes the layer of this name out of the case.
     pub fn forget(&mut self, name: &str) {
         self.layers.retain(|layer| layer.0.as_str() != name);
     }

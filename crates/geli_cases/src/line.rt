@@ -1,4 +1,4 @@
-//! The lines of a case file, as docs/CASES.md says them: a word, and arguments between single spaces.
+//! The lines of a case file, as docs/CASES.md describes them: a word, and arguments between single spaces.
 use crate::fault::Fault;
 use crate::layers::LayerKind;
 use std::alloc::{AllocError, Global};
@@ -56,7 +56,7 @@ pub enum Given {
     RoomOutput,
 }
 
-/// How a line tells bytes.
+/// How a line gives bytes.
 #[derive(Clone, Copy)]
 pub enum Form {
     /// HEX.
@@ -118,8 +118,8 @@ const KINDS: [(&str, Kind); 39] = [
     ("room-out", Kind::Given(Given::RoomOutput)),
 ];
 
-/// A line whose arguments are taken from the left. The first that is missing or wrong is kept as the line's fault,
-/// and is then 0 or empty: `settle` tells it when the line is done.
+/// A line whose arguments are taken from the left. The first that is missing or wrong is kept as the line's fault, and
+/// is then 0 or empty: `settle` returns it when the line is done.
 #[derive(Drop)]
 pub struct Line<'a> {
     rest: Option<&'a str>,
@@ -140,7 +140,7 @@ impl<'a> Line<'a> {
         self.one_of(&KINDS, "no such kind of line")
     }
 
-    /// What the next word stands for in a table; where it isn't there, this is the line's fault.
+    /// What the next word stands for in a table; if it isn't there, that is the line's fault.
     pub fn one_of<T: Copy>(
         &mut self,
         table: &[(&'static str, T)],
@@ -192,14 +192,14 @@ impl<'a> Line<'a> {
         }
     }
 
-    // Keeps what is wrong, unless something else was.
+    // Keeps what is wrong, unless something was wrong before.
     fn wrong(&mut self, why: &'static str) {
         if self.fault.is_none() {
             self.fault = Some(Fault::Bad(why));
         }
     }
 
-    /// What came of the line, where this came of doing it.
+    /// The result of the line: its fault, arguments that are left over, or what came of doing it.
     pub fn settle(&self, done: Result<(), Fault>) -> Result<(), Fault> {
         match (self.fault, done) {
             (Some(fault), _) => Err(fault),
@@ -208,7 +208,7 @@ impl<'a> Line<'a> {
         }
     }
 
-    /// Appends the bytes that the line tells.
+    /// Appends the bytes that the line gives.
     pub fn bytes(&mut self, alloc: Global, form: Form, into: &mut Vec<u8>) -> Result<(), Fault> {
         match form {
             Form::Hex => self.hex(alloc, into),

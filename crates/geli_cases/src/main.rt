@@ -38,7 +38,7 @@ fn main(rt: HostRuntime) -> io::Result<ExitCode> {
     Ok(ExitCode::from(0))
 }
 
-// Runs the cases of one file. Where a line is not done, tells its number, counted from 1.
+// Runs the cases of one file. If a line isn't done, returns its number, counted from 1, and why.
 fn play(alloc: Global, bytes: &[u8], transcript: &mut Transcript) -> Result<(), (u64, Fault)> {
     let mut world = World::new(alloc);
     for (line, number) in bytes.split(|byte| *byte == b'\n').zip(1u64..u64::MAX) {

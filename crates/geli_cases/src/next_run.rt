@@ -9,9 +9,9 @@ use crate::transcript::{Part, Transcript};
 use crash_disk::{CallKind, FailAt, MemSink, MemSource, SparseDisk};
 use std::alloc::Global;
 
-// The room of a sink, where no line says another.
+// The room of a sink, if no line gives another.
 const USUAL_ROOM: u64 = 1_048_576;
-// What a disk has that is offered: a run sends it no event.
+// The sectors of a disk that is offered; a run sends it no event.
 const OFFERED_SECTORS: u64 = 2;
 
 const OFFERED_ROOM: u64 = 16;
@@ -25,7 +25,7 @@ const CALLS: [(&str, CallKind); 3] = [
 // Whether the event of a failing call is made all the same.
 const LANDS: [(&str, bool); 2] = [("lands", true), ("lost", false)];
 
-/// What lines gathered for the next run. It is forgotten after that.
+/// What lines gathered for the next run, after which it is forgotten.
 #[derive(Drop)]
 pub struct NextRun {
     /// The words of the command line.
@@ -183,8 +183,7 @@ pub fn fail_calls(
     Ok(disk.fail_calls(&calls)?)
 }
 
-/// Offers disks of these names to the shelf, behind the drawers, and tells what it answers. Those that it takes are
-/// added.
+/// Offers disks of these names to the shelf, after the drawers, and prints its replies. Those that it takes are added.
 pub fn add_offers(
     alloc: Global,
     names: &[String],

@@ -11,15 +11,15 @@ use provider_disk::ProviderDisk;
 pub enum RunDisk {
     /// A disk of the case.
     Plain(TracedDisk),
-    /// Writes wait for it.
+    /// A disk of the case for which writes wait.
     Behind(WriteBehind<TracedDisk>),
-    /// Two of them as one.
+    /// Two disks of the case as one.
     Join(Concat<TracedDisk, TracedDisk>),
-    /// The provider on it.
+    /// The provider on a disk of the case.
     Provider(ProviderDisk<TracedDisk>),
 }
 
-/// It is the disk of its variant.
+/// Each call is one of the variant's disk.
 impl Disk for RunDisk {
     ghost state = { run_disk_state };
 

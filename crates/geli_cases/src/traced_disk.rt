@@ -1,4 +1,4 @@
-//! The disks of a run, whose events can be looked at also where a layer has them.
+//! The disks of a run, whose events can be looked at even while a layer has the disk.
 ghost use Rattle.geli_cases.specs.TracedDisk.{traced_disk_of};
 
 use crate::fault::Fault;
@@ -63,7 +63,7 @@ impl TracedDisk {
     }
 }
 
-/// It is the disk in it.
+/// Each call is one of the disk in it.
 impl Disk for TracedDisk {
     ghost state = { traced_disk_of };
 

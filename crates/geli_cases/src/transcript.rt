@@ -1,18 +1,18 @@
-//! The transcript of cases, as docs/CASES.md says it.
+//! The transcript of cases, as docs/CASES.md describes it.
 use crate::fault::Fault;
 use block_traits::Event;
 use sha2::{Digest, Sha256};
 use std::alloc::Global;
 
-// A longer line of output is told by its digest.
+// A longer line of output is shown by its digest.
 const LONG_LINE: usize = 200;
 // So many bytes of a longer line are shown.
 const SHOWN: usize = 40;
-// A longer file is told by its digest.
+// A longer file is shown by its digest.
 const LONG_FILE: usize = 16;
 
-/// The transcript so far. It is printed only when all cases are done, so that a bad line leaves nothing else. Where
-/// there is no memory for a part, that is kept, and `settle` tells it.
+/// The transcript so far. It is printed only when all cases are done, so that a bad line leaves nothing else. If there
+/// is no memory for a part, that is kept, and `settle` returns it.
 #[derive(Drop)]
 pub struct Transcript {
     alloc: Global,
@@ -235,7 +235,7 @@ impl Transcript {
     }
 }
 
-// The text of a line whose bytes are all plain.
+// The text of a line, if its bytes are all plain.
 fn plain_text(line: &[u8]) -> Option<&str> {
     if !line.iter().all(|byte| b' ' <= *byte && *byte <= b'~') {
         return None;

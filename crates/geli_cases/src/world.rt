@@ -13,7 +13,7 @@ use block_traits::{Entropy, Source};
 use crash_disk::{MemEntropy, MemSource, Pick, SparseDisk};
 use std::alloc::Global;
 
-// The last status that tells how much input is left.
+// The last status after which the transcript says how much input is left.
 const LAST_READER: u8 = 2;
 
 /// What a case has between its lines.
@@ -158,7 +158,8 @@ impl World {
         Ok(())
     }
 
-    // The top call over each survivor that differs in one sector alone, where nothing fails. The case stays as it is.
+    // The top call over each survivor that differs in one sector alone, with no call that fails. The case stays as it
+    // is.
     fn crashes(
         &mut self,
         alloc: Global,
@@ -175,7 +176,7 @@ impl World {
         Ok(())
     }
 
-    // The same for the survivors of one moment.
+    // The top call over each survivor of one moment that differs in one sector alone.
     fn crashes_at(
         &mut self,
         alloc: Global,

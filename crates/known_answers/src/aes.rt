@@ -27,7 +27,7 @@ const VECTORS: [(usize, u128); 3] = [
     (32, 0x8ea2b7ca516745bfeafc49904b496089),
 ];
 
-// By the tables.
+// Enciphers and deciphers the block of the vectors by the tables.
 fn check_tables(rt: &impl Abort, schedule: &Schedule, cipher: u128) {
     let mut block = PLAIN.to_be_bytes();
     schedule.encrypt_block(&mut block);
@@ -36,7 +36,7 @@ fn check_tables(rt: &impl Abort, schedule: &Schedule, cipher: u128) {
     assert_eq!(rt; u128::from_be_bytes(block), PLAIN);
 }
 
-// By the plain program of the equations.
+// Enciphers and deciphers the block of the vectors by the plain program of the equations.
 fn check_equations(rt: &impl Abort, schedule: &Schedule, cipher: u128) {
     let (keys, count) = (schedule.round_keys(), schedule.rounds() - 1);
     let enciphered = encipher(keys, count, PLAIN.to_be_bytes());

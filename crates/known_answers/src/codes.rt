@@ -266,7 +266,7 @@ fn published_keys(rt: HostRuntime) -> Result<(), Fail> {
     Ok(())
 }
 
-// Four keys: the bytes of key j begin with 32 * j, and each is one more than that before it.
+// Four keys: the bytes of key j begin with 32 * j, and each is one more than the one before it.
 fn four_keys() -> [[u8; 32]; 4] {
     let mut keys = [[0u8; 32]; 4];
     for (j, key) in keys.iter_mut().enumerate() {

@@ -1,4 +1,4 @@
-//! The kit's hashes, on which definitions stand, and SHA-256 of sha_stream, against examples of their standards and
+//! The kit's hashes, on which definitions rest, and SHA-256 of sha_stream, against examples of their standards and
 //! another library.
 use crate::common::{fill, is_hex};
 use md5::{Digest, Md5};

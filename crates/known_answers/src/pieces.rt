@@ -232,7 +232,7 @@ fn four_sealed_pieces(rt: HostRuntime) -> Result<(), Fail> {
     Ok(())
 }
 
-// Whether a piece of 32 bytes opens so: by these bytes, or not at all and to zeros.
+// Whether a piece of 32 bytes opens to this byte 32 times, or if none is wanted, is refused and leaves zeros.
 fn opens_short(rt: &impl Abort, ring: &mut KeyRing, sector: &[u8; 512], want: Option<u8>) -> bool {
     assert!(rt; ring.auth() != Auth::Off && 32 <= ring.auth().data_bytes());
     let mut out = [9; 32];
@@ -240,7 +240,7 @@ fn opens_short(rt: &impl Abort, ring: &mut KeyRing, sector: &[u8; 512], want: Op
     answer.is_ok() == want.is_some() && out == [want.unwrap_or(0); 32]
 }
 
-// After a short piece stand zeros, at which nobody looks. A turned bit of the piece is told.
+// After a short piece stand zeros, at which opening doesn't look. A turned bit of the piece is detected.
 #[test]
 fn a_short_piece(rt: HostRuntime) -> Result<(), Fail> {
     let mut ring = ring_of(&rt, rt.alloc(), Auth::Sha256, Cipher::AesXts, 128)?;

@@ -50,7 +50,7 @@ const TAGGED_1_BACK: [u128; 2] = [
     0x4f7b35b668bc67c63b06dd2f75c2424d,
 ];
 
-// Those of metadata below version 7, whatever the authentication.
+// The range keys of metadata below version 7, whatever the authentication.
 const OLD_0_FRONT: [u128; 2] = [
     0x013f5e8a32eb1c2faf41c3c8ed6e7215,
     0xf65636379c36428e8198e1b1b0d7b869,
@@ -254,7 +254,7 @@ struct Vector {
     tag_key: [u128; 2],
 }
 
-// By the same script.
+// By tools/range_key_tables.py.
 const VECTORS: [Vector; 2] = [
     Vector {
         offset: 0,
@@ -313,8 +313,8 @@ fn kept(ring: &KeyRing) -> u32 {
     bits
 }
 
-// The number whose range key is asked for, and the numbers whose keys are kept then: the last sixteen that were asked
-// for.
+// The number whose range key is asked for, and the numbers whose keys are kept afterwards: the last sixteen that were
+// asked for.
 const USES: [(u64, u32); 20] = [
     (0, 0x1),
     (1, 0x3),
@@ -338,7 +338,7 @@ const USES: [(u64, u32); 20] = [
     (1, 0x1fff7),
 ];
 
-// Asks for the range key of a number. That of number 0 is the one above, also where it comes back.
+// Asks for the range key of a number. The key of number 0 is the one above, even when it comes back.
 fn use_number(rt: &impl Abort, ring: &mut KeyRing, number: u64) -> Result<(), Fail> {
     assert!(rt; number < 17);
     let key = ring.key_at(number << 29);

@@ -179,7 +179,7 @@ struct Vector {
     digest: &'static str,
 }
 
-// By the same script, under the same master key, of the same plaintext.
+// By tools/sector_tables.py, under the master key and of the plaintext of its tables.
 const VECTORS: [Vector; 9] = [
     Vector {
         version: 7,

@@ -35,7 +35,7 @@ DeletesRow all force slot old answer new =
 abbrev pub slot_of : Holding → Option ℕ
 slot_of holding = option_map (λ a. a.slot) (attachment_in holding)
 
--- where no slot is named an attached drawer means that one
+-- `delkey`: if no slot is named, an attached drawer means the one that gave its master key
 abbrev pub DelkeyRow : Bool → Bool → Option ℕ → Reach → Result (Unit {0}) Refusal → Reach → Type 0
 DelkeyRow all force slot old answer new = DeletesRow all force (option_or slot (slot_of old.holding)) old answer new
 
@@ -67,8 +67,8 @@ pub record OverwritesKeys (disk : DiskState) (events : List Event) : Type 0 wher
   pub size : length random ≡ filler_size which
   pub are : events ≡ pass_events disk m which random
 
--- once it's done the last sector holds the metadata with zeros in the named slots alone, whose other slot stays as it
--- is
+-- once `delkey` is done, the last sector holds only the metadata with zeros in the named slots, whose other slot stays
+-- as it is
 pub record IsCleared (asked : Deletion) (old new : DiskState) : Type 0 where
   pub m : Metadata
   pub without : IsWithout asked m

@@ -1,4 +1,4 @@
--- `detach`: the drawer becomes idle, also where it was suspended (geli(8)).
+-- `detach`: the drawer becomes idle, even if it was suspended (geli(8)).
 use Rattle.std.specs.Prelude.{None, Result}
 use Rattle.command_rows.specs.Rows.{Detaches, NoBadFile, NoChanges, NoGround, OfOther, OneFlush, Reach, Replies, Verb, asks_nothing, done_or, places_nothing}
 use Rattle.command_rows.specs.Vocabulary.{Refusal, Span}

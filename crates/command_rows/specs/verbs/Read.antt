@@ -1,4 +1,4 @@
--- `read`: logical sectors are answered.
+-- `read`: logical sectors are read and returned.
 use Rattle.std.specs.Prelude.{Err, List, None, Ok, Result, ℕ, ◌*◌, ◌+◌, ◌≡◌, ◌≤◌}
 use Rattle.command_rows.specs.Rows.{AsksToRead, AttachedWith, Attachment, Counted, NeedsSectors, NeedsWhole, NoBadFile, NoChanges, NoEvents, NoGround, OfRead, Reach, ReadsSectors, Replies, Then, Verb, payload_or, places_nothing, whole_sectors}
 use Rattle.command_rows.specs.Vocabulary.{DiskState, ReadsAs, Refusal, Span, media}

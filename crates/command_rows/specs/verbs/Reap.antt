@@ -11,7 +11,7 @@ reap_refusal tag reap.NoRequest = refusals.NoRequest tag
 reap_refusal tag (reap.NotDone left) = refusals.RequestNotDone tag left
 reap_refusal tag (reap.Integrity offset) = refusals.Integrity offset
 
--- what is answered for a request that was reaped: the bytes of a read, which stand at the front of some others
+-- what is returned for a request that was reaped: the bytes of a read, which stand at the front of some others
 abbrev pub bytes_reaped : List ℕ → Reaped → Option (List ℕ)
 bytes_reaped buffer (reaped.Bytes count) = Some (take count buffer)
 bytes_reaped buffer reaped.Written = None
@@ -21,7 +21,7 @@ abbrev pub reap_answer : ℕ → List ℕ → Result Reaped ReapFault → Result
 reap_answer tag buffer (Ok given) = Ok (bytes_reaped buffer given)
 reap_answer tag buffer (Err fault) = Err (reap_refusal tag fault)
 
--- The request with this tag, whose units are all done, is taken out; or it isn't. A read puts its bytes to the front of
+-- The request with this tag, whose units are all done, is taken out; or it isn't. A read puts its bytes at the front of
 -- those that some place had before. The disk stays in either case.
 pub record ReapsRequest (a : Attachment) (tag : ℕ) (old : Reach) (answer : Result (Option (List ℕ)) Refusal) (new : Reach) : Type 0 where
   pub queue : List Request

@@ -17,14 +17,14 @@ NeedsSameKey kept a old answer new = Decides (same_key kept a) old answer new
 abbrev pub AttachesAgain : Kept → Attachment → Reach → Result (Unit {0}) Refusal → Reach → Type 0
 AttachesAgain kept a old answer new = Then (NeedsSameKey kept a) (λ _. Attaches a) old answer new
 
--- `resume`, of a suspended drawer: slot 0 is tried, and then slot 1; the provider is read-only where it was so or the
+-- `resume`, of a suspended drawer: slot 0 is tried, and then slot 1; the provider is read-only if it was so or the
 -- metadata say so
 abbrev pub ResumeRow : List ℕ → KeyWords → Kept → Reach → Result (Unit {0}) Refusal → Reach → Type 0
 ResumeRow line words kept old answer new =
     Then (TryRow line None kept.readonly words)
     (λ a. AttachesAgain kept a) old answer new
 
--- what `resume` finds where nothing refuses it: a key that opens the suspended provider's metadata (`FindsKey`), to the
+-- what `resume` finds if nothing refuses it: a key that opens the suspended provider's metadata (`FindsKey`), to the
 -- master key that the provider had
 pub record FindsSameKey (line : List ℕ) (words : KeyWords) (old : Reach) (kept : Kept) : Type 0 where
   pub key : FindsKey line None kept.readonly words old
@@ -36,7 +36,7 @@ pub record OpensOtherMaster (line : List ℕ) (words : KeyWords) (kept : Kept) (
   pub opens : OpensWith line None kept.readonly words old a
   pub refused : same_key kept a ≡ Err refusal
 
--- the metadata aren't admitted, the key isn't, or it is another
+-- the metadata aren't admitted, the key isn't, or it opens another master key
 abbrev pub RefusesResume : List ℕ → KeyWords → Kept → Reach → Refusal → Type 0
 RefusesResume line words kept old refusal = RefusesAttach line None kept.readonly words old refusal ⊎ OpensOtherMaster line words kept old refusal
 

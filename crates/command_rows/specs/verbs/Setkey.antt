@@ -40,12 +40,12 @@ pub record StoresKey (asked : KeyChange) (old : Reach) (answer : Result (Unit {0
   pub cabinet : new.cabinet ≡ old.cabinet
   pub entropy : new.entropy ≡ old.entropy
 
--- the new key is put where the named slot is, or else that which the old key opened
+-- the new key is put into the named slot, or else into the one that the old key opened
 abbrev pub SetsOpened : List ℕ → Option ℤ → Option ℕ → Metadata → Components → MasterKey × ℕ → Reach → Result (Unit {0}) Refusal → Reach → Type 0
 SetsOpened line iterations slot m fresh found old answer new =
     StoresKey (record { meta = m; master = found.0.bytes; slot = unwrap_or slot found.1; iterations = iterations; parts = fresh }) old answer new
 
--- of an idle drawer: the files of both keys are loaded, and the old key opens a slot
+-- `setkey` on an idle drawer: the files of both keys are loaded, and the old key opens a slot
 abbrev pub SetkeyIdleRow : List ℕ → Option ℤ → Option ℕ → KeyWords → KeyWords → Reach → Result (Unit {0}) Refusal → Reach → Type 0
 SetkeyIdleRow line iterations slot words fresh old answer new =
     Then ReadsLastSector
@@ -56,7 +56,8 @@ SetkeyIdleRow line iterations slot words fresh old answer new =
     (λ next. Then (OpensSlot m parts)
     (λ found. SetsOpened line iterations slot m next found)))))) old answer new
 
--- of an attached drawer, by this master key: the files of the new key alone are loaded, and it is put into this slot
+-- `setkey` on an attached drawer, by this master key: the files of the new key alone are loaded, and it is put into
+-- this slot
 abbrev pub SetkeyAttachedRow : List ℕ → Option ℤ → ℕ → List ℕ → KeyWords → Reach → Result (Unit {0}) Refusal → Reach → Type 0
 SetkeyAttachedRow line iterations slot master fresh old answer new =
     Then ReadsLastSector
@@ -65,7 +66,8 @@ SetkeyAttachedRow line iterations slot master fresh old answer new =
     (λ _. Then (LoadsComponents line fresh)
     (λ parts. StoresKey (record { meta = m; master = master; slot = slot; iterations = iterations; parts = parts }))))) old answer new
 
--- by what the drawer does with its disk; where no slot is named an attached drawer means that which gave its master key
+-- `setkey`, by what the drawer does with its disk; if no slot is named, an attached drawer means the one that gave its
+-- master key
 abbrev pub SetkeyRow : List ℕ → Option ℤ → Option ℕ → KeyWords → KeyWords → Reach → Result (Unit {0}) Refusal → Reach → Type 0
 SetkeyRow line iterations slot words fresh old answer new =
     MatchOption (attachment_in old.holding)
@@ -78,7 +80,7 @@ pub record FindsNewKey (line : List ℕ) (iterations : Option ℤ) (slot : ℕ) 
   pub names : NamesParts line fresh old.cabinet parts
   pub served : change_refusal (record { meta = m; master = master; slot = slot; iterations = iterations; parts = parts }) ≡ None
 
--- of an idle drawer: the metadata are admitted, and the old key opens a slot
+-- `setkey` on an idle drawer: the metadata are admitted, and the old key opens a slot
 pub record FindsOldKey (line : List ℕ) (iterations : Option ℤ) (slot : Option ℕ) (words fresh : KeyWords) (m : Metadata) (old : Reach) : Type 0 where
   pub settings : Settings
   pub admits : admitted m old.disk.size None ≡ Ok settings
@@ -89,7 +91,7 @@ pub record FindsOldKey (line : List ℕ) (iterations : Option ℤ) (slot : Optio
   pub opens : slot_opened_by m (user_key parts m.salt m.iterations) ≡ Ok found
   pub next : FindsNewKey line iterations (unwrap_or slot found.1) found.0.bytes fresh m old
 
--- of an attached drawer: the metadata can be used
+-- `setkey` on an attached drawer: the metadata can be used
 pub record FindsAttached (line : List ℕ) (iterations : Option ℤ) (slot : ℕ) (master : List ℕ) (fresh : KeyWords) (m : Metadata) (old : Reach) : Type 0 where
   pub settings : Settings
   pub uses : usable m old.disk.size ≡ Ok settings
@@ -122,7 +124,7 @@ pub record RefusesOldKey (line : List ℕ) (words : KeyWords) (m : Metadata) (ol
   pub named : AreComponents old.cabinet.files line words parts
   pub refused : slot_opened_by m (user_key parts m.salt m.iterations) ≡ Err refusal
 
--- it opens one, and the new key is refused for the slot that is named, or else for that one
+-- the old key opens a slot, and the new key is refused for the slot that is named, or else for that one
 pub record RefusesNext (line : List ℕ) (iterations : Option ℤ) (slot : Option ℕ) (words fresh : KeyWords) (m : Metadata) (old : Reach) (refusal : Refusal) : Type 0 where
   pub parts : Components
   pub named : AreComponents old.cabinet.files line words parts
@@ -159,8 +161,8 @@ pub record WrapsOpened (told : Option Files) (line : List ℕ) (words : KeyWords
   pub master : asked.master ≡ found.0.bytes
   pub target : asked.slot ≡ unwrap_or slot found.1
 
--- the master key that is wrapped, and for which slot: an idle drawer's as `WrapsOpened` says; an attached drawer wraps
--- its own, for the slot that is named, or else for the one that gave it
+-- the master key that is wrapped, and for which slot: for an idle drawer as `WrapsOpened` says; an attached drawer
+-- wraps its own, for the slot that is named, or else for the one that gave it
 abbrev pub WrapsKey : Holding → Option Files → List ℕ → KeyWords → Option ℕ → KeyChange → Type 0
 WrapsKey holding told line words slot asked =
     MatchOption (attachment_in holding) (WrapsOpened told line words slot asked) (λ a. (asked.master ≡ a.keying.master) × (asked.slot ≡ unwrap_or slot a.slot))

@@ -15,7 +15,7 @@ step_refusal tag step.DeviceFault = refusals.DeviceFault
 abbrev pub next_events : ℕ → List Request → List Event
 next_events tag queue = unwrap_or (option_map step_events (request_with tag queue)) []
 
--- the next unit of the request with this tag is done, and how many are left is answered; or it isn't
+-- the next unit of the request with this tag is done, and the number of those left is returned; or it isn't done
 pub record StepsRequest (a : Attachment) (tag : ℕ) (old : Reach) (answer : Result ℕ Refusal) (new : Reach) : Type 0 where
   pub queue : List Request
   pub left : Result ℕ StepFault

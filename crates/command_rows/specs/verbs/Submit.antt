@@ -13,8 +13,8 @@ submit_refusal (submit.OutOfRange sector count media) = refusals.OutOfRange sect
 submit_refusal submit.QueueFull = refusals.QueueFull
 submit_refusal submit.NoMemory = refusals.NoMemory
 
--- A request for the job is opened, and its tag is answered; or it is refused, and the queue stays. The disk stays in
--- either case.
+-- A request for the job is opened, and its tag is returned; or the job is refused, and the queue stays. The disk stays
+-- in either case.
 pub record Submits (a : Attachment) (job : Job) (from : List ℕ) (old : Reach) (answer : Result ℕ Refusal) (new : Reach) : Type 0 where
   pub queue : List Request
   pub tag : Result ℕ SubmitFault
@@ -36,7 +36,7 @@ pub record FitsBytes (sector bytes : ℕ) (disk : DiskState) (a : Attachment) : 
   pub whole : whole_sectors a.keying.sectorsize bytes ≡ Ok sectors
   pub within : sector + sectors ≤ media a.keying disk
 
--- the sectors of a request are there, and the provider may be written where it writes
+-- the sectors of a request are there, and if it writes, the provider may be written
 abbrev pub FitsJob : List ℕ → JobWords → DiskState → Attachment → Type 0
 FitsJob line (words.Read sector count) disk a = FitsBytes sector (count * a.keying.sectorsize) disk a
 FitsJob line (words.Write sector hex) disk a = (a.readonly ≡ false) × FitsBytes sector (length (bytes_spelled (bytes_at line hex))) disk a

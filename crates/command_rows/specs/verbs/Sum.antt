@@ -1,9 +1,9 @@
--- `sum`: the digest of logical sectors is answered.
+-- `sum`: the digest of logical sectors is returned.
 use Rattle.std.specs.Prelude.{Err, List, None, Ok, Result, ℕ, ◌+◌, ◌≡◌, ◌≤◌}
 use Rattle.command_rows.specs.Rows.{AsksToRead, AttachedWith, Attachment, Decides, NeedsSectors, NoBadFile, NoChanges, NoEvents, NoGround, OfSum, Ranged, Reach, ReadsSectors, Replies, SectorsAnswer, Then, Verb, digest_or, places_nothing}
 use Rattle.command_rows.specs.Vocabulary.{DiskState, Keying, ReadsAs, Refusal, Span, media, sha256}
 
--- `sum`, of an attached drawer: the sectors are read, and the SHA-256 of their bytes is answered
+-- `sum`, of an attached drawer: the sectors are read, and the SHA-256 of their bytes is returned
 abbrev pub SumRow : ℕ → ℕ → Attachment → Reach → Result (List ℕ) Refusal → Reach → Type 0
 SumRow start count a old answer new =
     Then (NeedsSectors a start count)

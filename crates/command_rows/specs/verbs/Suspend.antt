@@ -1,4 +1,4 @@
--- `suspend`: of a suspended provider no request is served and no key is left (geli(8)).
+-- `suspend`: a provider serves no request from then on, and no key of it is left (geli(8)).
 use Rattle.std.specs.Prelude.{Err, List, None, Ok, Result, [], length, ◌∷◌, ◌≡◌}
 use Rattle.block_traits.specs.declared.disk.Event.TheVariants.{Flush}
 use Rattle.eli_base.specs.declared.refusals.Refusal.TheVariants as refusals
@@ -17,7 +17,7 @@ NeedsNoRequests a old answer new = Decides (if_none_open a.queue) old answer new
 abbrev pub kept_by : Attachment → DiskState → Kept
 kept_by a disk = record { sectorsize = a.keying.sectorsize; sectors = media a.keying disk; slot = a.slot; readonly = a.readonly; mark = sha256 a.keying.master }
 
--- the disk is flushed and not read, and the drawer is suspended then, also where the flush failed
+-- the disk is flushed and not read, and the drawer is suspended then, even if the flush failed
 pub record Suspends (a : Attachment) (old : Reach) (answer : Result (Unit {0}) Refusal) (new : Reach) : Type 0 where
   pub flushes : DoesEvents (Flush ∷ []) old.disk answer new.disk
   pub unasked : new.disk.reads ≡ old.disk.reads

@@ -29,7 +29,7 @@ NeedsTags a old answer new = Decides (if_tagged (has_tags a.keying.auth)) old an
 abbrev pub place_size : ℕ
 place_size = 8
 
--- what was loaded, or nothing where there is no such file
+-- what was loaded, or nothing if there is no such file
 abbrev pub unless_absent : Result (List ℕ) Refusal → Result (Option (List ℕ)) Refusal
 unless_absent (Ok bytes) = Ok (Some bytes)
 unless_absent (Err (refusals.FileAbsent word)) = Ok None
@@ -46,12 +46,12 @@ abbrev pub place_in : ℕ → Option (List ℕ) → Result ℕ Refusal
 place_in word None = Ok 0
 place_in word (Some bytes) = if nat_lt (length bytes) place_size then Err (refusals.BadPlaceFile word (length bytes)) else Ok (from_le_bytes w64 bytes)
 
--- the place that the file says; or the first sector, where the sweep begins anew, and then no file is loaded
+-- the place that the file says; or the first sector if the sweep begins anew, and then no file is loaded
 abbrev pub FindsPlace : Bool → List ℕ → Span → Reach → Result ℕ Refusal → Reach → Type 0
 FindsPlace true line file old answer new = Decides (Ok 0) old answer new
 FindsPlace false line file old answer new = Then (LoadsPlace line file) (λ found. Decides (place_in file.word found)) old answer new
 
--- it is no further than the end of the last sector
+-- a place is no further than the end of the last sector
 abbrev pub if_inside : ℕ → ℕ → Result (Unit {0}) Refusal
 if_inside place there = if nat_le place there then Ok tt else Err (refusals.BadPlace place there)
 
@@ -72,8 +72,8 @@ pub record ListsUnits (k : Keying) (n count : ℕ) (offsets : List ℕ) (old new
   pub asked : Counted count old.reads new.reads
   pub logs : Logs [] old new
 
--- what that says of each unit: an offset is listed exactly where the unit there fails, of these device sectors as they
--- were read, and once
+-- what `ListsUnits` says of each unit: an offset is listed exactly if the unit there fails, of these device sectors as
+-- they were read, and once
 pub record ListsEachOnce (k : Keying) (n count : ℕ) (offsets : List ℕ) (old : DiskState) : Type 0 where
   pub sectors : List (List ℕ)
   pub all : length sectors ≡ count
@@ -91,13 +91,13 @@ abbrev pub Sweeps : Attachment → ℕ → ℕ → Reach → Result SweptPart Re
 Sweeps a place count old answer new =
     ReadsDisk (λ disk. PartAnswer (sweep_at a.keying (media a.keying disk) place count) disk) old answer new
 
--- from a place that is there
+-- the sweep from a place, if the provider has it
 abbrev pub SweepsFrom : Attachment → ℕ → ℕ → Reach → Result SweptPart Refusal → Reach → Type 0
 SweepsFrom a place count old answer new = Then (NeedsPlace a place) (λ _. Sweeps a place count) old answer new
 
 -- ---- the row
 
--- the place of the next part is stored, and then the part is answered
+-- the place of the next part is stored, and then the part is returned
 abbrev pub StoresPlace : List ℕ → Span → SweptPart → Reach → Result SweptPart Refusal → Reach → Type 0
 StoresPlace line file part old answer new = Then (StoresBytes line file (le64 part.next)) (λ _. Decides (Ok part)) old answer new
 
@@ -124,7 +124,7 @@ pub record FitsVerify (line : List ℕ) (file : Span) (restart : Bool) (disk : D
   pub tagged : has_tags a.keying.auth ≡ true
   pub place : restart ≡ false → FindsPlaceTold line file cabinet (media a.keying disk)
 
--- the file of a place has more bytes than a place; it isn't loaded where the sweep begins anew, and one that is absent
+-- the file of a place has more bytes than a place; it isn't loaded if the sweep begins anew, and one that is absent
 -- isn't refused
 pub record RefusesLong (restart : Bool) (line : List ℕ) (file : Span) (old : CabinetState) (refusal : Refusal) (new : CabinetState) : Type 0 where
   pub loads : restart ≡ false
@@ -144,7 +144,7 @@ pub record RefusesPlace (line : List ℕ) (file : Span) (restart : Bool) (disk :
   pub named : IsFile place_size told line file bytes
   pub refused : (place_in file.word (Some bytes) ≡ Err refusal) ⊎ SaysTooFar file.word bytes (media a.keying disk) refusal
 
--- the answer
+-- the reply of `verify`
 abbrev pub verified_or : Result SweptPart Refusal → Answer
 verified_or (Ok part) = answers.Verified part.offsets part.next
 verified_or (Err refusal) = answers.Refused refusal

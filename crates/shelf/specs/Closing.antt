@@ -9,8 +9,8 @@ abbrev pub Flushes : Bool → DiskState → DiskState → Type 0
 Flushes false old new = Logs (Flush ∷ []) old new
 Flushes true old new = FailsIn (Flush ∷ []) old new
 
--- one drawer is closed, by whether it is idle, and whether its flush failed: nothing is done on an idle one, and
--- another is idle then and wasn't read
+-- one drawer is closed, by whether it is idle, and whether its flush failed: nothing is done to an idle one, and any
+-- other is idle afterwards and wasn't read
 abbrev pub ClosesAs : Bool → DrawerState → Bool → DrawerState → Type 0
 ClosesAs true old failed new = (failed ≡ false) × (new ≡ old)
 ClosesAs false old failed new = Flushes failed old.disk new.disk × (new ≡ record { name = old.name; disk = new.disk; holding = Idle }) × (new.disk.reads ≡ old.disk.reads)
@@ -18,7 +18,7 @@ ClosesAs false old failed new = Flushes failed old.disk new.disk × (new ≡ rec
 abbrev pub Closes : DrawerState → Bool → DrawerState → Type 0
 Closes old failed new = ClosesAs (is_idle old.holding) old failed new
 
--- one where it failed
+-- one if a flush failed, else none
 abbrev pub failures : Bool → ℕ
 failures false = 0
 failures true = 1

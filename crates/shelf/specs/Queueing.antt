@@ -4,7 +4,7 @@ use Rattle.bio_queue.specs.declared.job.Reaped.TheVariants.{Bytes, Written, Flus
 use Rattle.command_rows.specs.Vocabulary.{ReapFault, Reaped, Refusal}
 use Rattle.command_rows.specs.verbs.Reap.{reap_refusal}
 
--- those of a read; other requests have none
+-- how many bytes a read gave, which stand there; other requests have none
 abbrev pub count_given : ℕ → Result Reaped ReapFault → Result (Option ℕ) Refusal
 count_given tag (Ok (Bytes count)) = Ok (Some count)
 count_given tag (Ok Written) = Ok None

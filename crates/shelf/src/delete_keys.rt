@@ -82,7 +82,7 @@ pub fn serve_delkey_idle<D: Disk, E: Entropy>(
     }
 }
 
-/// Serves `delkey` on an attached drawer, which stays attached: the slot is the provider's where none is named.
+/// Serves `delkey` on an attached drawer, which stays attached: if no slot is named, it is the provider's.
 pub fn serve_delkey_attached<D: Disk, E: Entropy>(
     provider: &mut Provider<D>,
     line: &[u8],

@@ -117,7 +117,7 @@ impl<D: Disk> Drawer<D> {
         }
     }
 
-    /// Flushes the disk where its provider is attached or suspended, and says whether that failed. The drawer is idle
+    /// Flushes the disk if its provider is attached or suspended, and returns whether that failed. The drawer is idle
     /// then.
     pub fn close(self) -> (Drawer<D>, bool)
         ensures { Closes (drawer_of D.state self) result.1 (drawer_of D.state result.0) }
@@ -193,7 +193,7 @@ impl<D: Disk> Drawer<D> {
     }
 }
 
-// Why the drawer isn't such a one as a verb needs, if it isn't.
+// Why the drawer isn't in the state that a verb needs, if it isn't.
 fn refused_by<D: Disk>(needs: Needs, held: &Held<D>) -> Option<Refusal>
     ensures { result ≡ refused_by needs (holding_of held.now) }
 {
@@ -208,7 +208,7 @@ fn refused_by<D: Disk>(needs: Needs, held: &Held<D>) -> Option<Refusal>
     }
 }
 
-// Goes through the row of the command's verb, on an idle drawer, which is such a one as the verb needs.
+// Goes through the row of the command's verb, on an idle drawer that is in the state that the verb needs.
 fn serve_idle<D: Disk, C: Cabinet, E: Entropy>(
     alloc: Global,
     disk: D,

@@ -107,10 +107,10 @@ impl<D: Disk> Drawers<D> {
         }
     }
 
-    /// Serves a command, whose places are those of the line: `UnknownProvider` exactly where no drawer has the name of
-    /// its provider, and else the reply of the drawer. The other drawers stay as they are. `list` replies with an entry
-    /// for each drawer, or that there was no memory. `eject` takes the drawer out with its disk, of which nothing more
-    /// is said.
+    /// Serves a command, whose places are those of the line: `UnknownProvider` exactly if no drawer has the name of its
+    /// provider, and otherwise the reply of the drawer. The other drawers stay as they are. `list` replies with an
+    /// entry for each drawer, or that there was no memory. `eject` takes the drawer out with its disk, of which nothing
+    /// more is said.
     pub fn serve<C: Cabinet, E: Entropy>(
         &mut self,
         line: &[u8],
@@ -189,8 +189,8 @@ impl<D: Disk> Drawers<D> {
         let _ = &self.drawers;
     }
 
-    /// What the disk of the named drawer returns for `events`. None comes exactly where no idle drawer has the name or
-    /// the disk doesn't show its events.
+    /// What the disk of the named drawer returns for `events`. None comes exactly if no idle drawer has the name or the
+    /// disk doesn't show its events.
     pub fn events(&self, name: &str) -> Option<&[Event]>
         ensures { ShowsEvents name.now (drawers_of D.state self.now.drawers) (option_copied result) }
     {
@@ -257,7 +257,7 @@ fn find<D: Disk>(drawers: &[Drawer<D>], name: &[u8]) -> Option<usize>
     None
 }
 
-// Puts an item back in its place, where there is room.
+// Puts an item back in its place; there is room for it.
 fn put_back<T: Drop>(items: &mut Vec<T>, place: usize, item: T)
     requires inside { place ≤ vec_len items.old }
     requires room { vec_len items.old < vec_capacity items.old }

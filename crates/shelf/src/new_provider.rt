@@ -25,10 +25,10 @@ use key_components::load_components;
 use reply_text::Reply;
 use std::alloc::Global;
 
-/// How often a new passphrase is hashed where the words don't say it.
+/// How often a new passphrase is hashed if the words don't say.
 const ITERATIONS: i32 = 100_000;
 
-// The iterations of a new key: -1 where there is no passphrase, else those that are given, or 100,000.
+// The iterations of a new key: -1 if there is no passphrase, else those that are given, or 100,000.
 fn iterations_of(fresh: &KeyWords, given: Option<i32>) -> i32
     ensures { result ≡ iterations_of fresh.now given }
 {
@@ -62,7 +62,7 @@ fn back_up<C: Cabinet>(
 }
 
 // Makes a provider of the disk of an idle drawer: loads the files of its key, writes its metadata, and then stores them
-// as a backup where one is wanted. A backup that can't be stored leaves the provider that was made.
+// as a backup if one is wanted. A backup that can't be stored leaves the provider that was made.
 fn init<D: Disk, C: Cabinet, E: Entropy>(
     alloc: Global,
     disk: &mut D,

@@ -89,7 +89,7 @@ fn submit_read<D: Disk>(
     submit_answer(queue.submit(provider, &job, &[]))
 }
 
-// The bytes that the digits spell are put to the front of the buffer.
+// Submits a write. The bytes that the digits spell are put at the front of the buffer.
 fn submit_write<D: Disk>(
     provider: &mut Provider<D>,
     queue: &mut Queue,
@@ -151,7 +151,7 @@ pub fn submit<D: Disk>(
     }
 }
 
-// Refuses a tag that no open request has which is one of the provider, as that is now.
+// Refuses a tag unless an open request has it and is one of the provider, as the provider is now.
 fn check_request<D: Disk>(provider: &Provider<D>, queue: &Queue, tag: u8) -> Result<(), Refusal>
     ensures { MatchResult result
         (λ _. HasRequest (attachment_of queue.now provider.now) tag (D.state provider.now.disk))
@@ -166,7 +166,7 @@ fn check_request<D: Disk>(provider: &Provider<D>, queue: &Queue, tag: u8) -> Res
 }
 
 /// Does the next unit of the open request with this tag, and returns how many are left. A request that isn't one of the
-/// provider, as that is now, is none.
+/// provider, as the provider is now, counts as none.
 pub fn step<D: Disk>(provider: &mut Provider<D>, queue: &mut Queue, tag: u8) -> Result<u64, Refusal>
     ensures { (cabinet : CabinetState) (entropy : EntropyState) →
         StepRow tag (attachment_of queue.old provider.old)
@@ -178,7 +178,7 @@ pub fn step<D: Disk>(provider: &mut Provider<D>, queue: &mut Queue, tag: u8) -> 
     step_answer(queue.step(provider, tag), tag)
 }
 
-/// Takes out the open request with this tag, whose units are all done. The bytes of a read are put to the front of the
+/// Takes out the open request with this tag, whose units are all done. The bytes of a read are put at the front of the
 /// buffer, and their number is returned.
 pub fn reap<D: Disk>(
     provider: &mut Provider<D>,

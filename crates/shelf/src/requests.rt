@@ -82,7 +82,7 @@ pub fn read<D: Disk>(
     read_answer(answer, given as u32)
 }
 
-/// Writes logical sectors with the bytes that digits spell, which are put to the front of the buffer.
+/// Writes logical sectors with the bytes that digits spell, which are put at the front of the buffer.
 pub fn write<D: Disk>(
     provider: &mut Provider<D>,
     sector: u64,
@@ -105,7 +105,7 @@ pub fn write<D: Disk>(
     write_answer(provider.write(sector, &buffer[..given]))
 }
 
-/// Puts the bytes that digits spell to the front of the buffer, and returns how many.
+/// Puts the bytes that digits spell at the front of the buffer, and returns how many.
 pub fn decode(digits: &[u8], buffer: &mut [u8]) -> usize
     requires spelled { SpellsBytes digits.now }
     requires room { length buffer.old ≡ request_limit }
@@ -125,8 +125,7 @@ fn digit_value(digit: u8) -> u8
     digit % 16 + 9 * (digit / 64)
 }
 
-// Puts the bytes that digits spell into room for just as many. No digit is asked whether it is one, so that many are
-// taken together.
+// Puts the bytes that digits spell into room for just as many. No digit is checked, so that many are taken together.
 fn decode_into(digits: &[u8], out: &mut [u8])
     requires spelled { IsOk (decode_of digits.now) }
     requires room { length digits.now ≡ 2 * length out.old }

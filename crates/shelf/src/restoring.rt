@@ -12,7 +12,7 @@ use eli_base::Refusal;
 use key_components::{FILE_LIMIT, load_file};
 use std::alloc::Global;
 
-/// Writes the metadata of the file at a place of the line to the disk of an idle drawer; where the sizes differ only if
+/// Writes the metadata of the file at a place of the line to the disk of an idle drawer; if the sizes differ, only when
 /// forced.
 pub fn restore<D: Disk, C: Cabinet>(
     alloc: Global,

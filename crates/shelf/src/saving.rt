@@ -13,7 +13,7 @@ use command_words::Span;
 use eli_base::Refusal;
 use std::alloc::Global;
 
-// The refusal of the file that the word names, by what a store of it answered.
+// The refusal of the file that the word names, by the fault of the store.
 fn store_refusal(word: u32, fault: StoreFault) -> Refusal
     ensures { result ≡ store_refusal word fault }
 {

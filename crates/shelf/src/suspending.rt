@@ -13,8 +13,8 @@ use eli_base::Refusal;
 use provider::Provider;
 use suspend::Suspended;
 
-/// Suspends the provider, also where the flush of its disk fails; it is refused while requests are open. The room of
-/// the queue is kept, so that to resume it needs no more.
+/// Suspends the provider, even if the flush of its disk fails; it is refused while requests are open. The room of the
+/// queue is kept, so that resuming needs no more.
 pub fn suspend<D: Disk>(provider: Provider<D>, queue: Queue) -> (Held<D>, Result<(), Refusal>)
     ensures { (cabinet : CabinetState) (entropy : EntropyState) →
         SuspendRow (attachment_of queue provider)

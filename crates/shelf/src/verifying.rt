@@ -32,7 +32,7 @@ use verify_sweep::{Swept, sweep};
 // The bytes of a place, which are the most that its file may have.
 const PLACE_SIZE: usize = 8;
 
-// The number that the bytes of the file are, which the word names.
+// The number that the bytes of a file are; the word names the file.
 fn place_in(word: u32, bytes: &[u8]) -> Result<u64, Refusal>
     requires { length bytes.now ≤ place_size }
     ensures { result ≡ place_in word (Some bytes.now) }
@@ -46,7 +46,7 @@ fn place_in(word: u32, bytes: &[u8]) -> Result<u64, Refusal>
     Ok(u64::from_le_bytes(place))
 }
 
-// The first sector where there is no file, or why it wasn't loaded.
+// The first sector if there is no file, or why it wasn't loaded.
 fn without_file(refusal: Refusal) -> Result<u64, Refusal>
     ensures { result ≡ without_file refusal }
 {
@@ -106,8 +106,8 @@ fn sweep_from<D: Disk>(
 }
 
 // Lists the units that fail at the front of the buffer, over so many logical sectors or fewer, and stores where the
-// next part begins in the file at a place of the line. It begins where that file says, and loads none where it begins
-// anew.
+// next part begins in the file at a place of the line. The sweep begins where that file says; if it begins anew, no
+// file is loaded.
 fn verify<D: Disk, C: Cabinet>(
     alloc: Global,
     provider: &mut Provider<D>,

@@ -77,9 +77,9 @@ pub attached_becomes : {A : Type 0} (line : List ℕ) (command : Command) (answe
 attached_becomes line command answer_to Row old said new gate shut stays h =
     with_attached old.holding _ (Becomes line command old said new) (λ a is row. stays_so line command old said new gate shut (stays a old row.answer new row.row)) h
 
--- ---- it becomes attached again
+-- ---- the drawer becomes attached again
 
--- what is attached where it was done
+-- what is attached if `resume` was done
 pub record Resumes (line : List ℕ) (words : KeyWords) (kept : Kept) (old new : Reach) : Type 0 where
   pub a : Attachment
   pub attached : new.holding ≡ IsAttached a

@@ -33,7 +33,7 @@ no_bad_file line words parts old refusal new names h =
     let none : ⊥ = cc (bad, names.named) in
     none
 
--- what is answered isn't refused
+-- what gives a value isn't refused
 pub not_both : {A : Type 0} (answer : Result A Refusal) (value : A) (refusal : Refusal) → answer ≡ Ok value → answer ≡ Err refusal → ⊥
 not_both answer value refusal ok err = let none : ⊥ = cc (ok, err) in none
 
@@ -67,7 +67,7 @@ attach_fits line slot readonly words old f refusal (inr h) =
 abbrev pub RulesOutTags : Command → Reach → Type 0
 RulesOutTags command old = IsTrue (needs_tags command) → AttachedWith old.holding (λ a. has_tags a.keying.auth ≡ false) → ⊥
 
--- and each other cause but want of memory
+-- each cause but want of memory is ruled out
 pub record RulesOut (line : List ℕ) (command : Command) (old : Reach) : Type 0 where
   pub gate : refused_by (needs command) old.holding ≡ None
   pub readonly : IsTrue (writes_data command) → AttachedWith old.holding (λ a. a.readonly ≡ true) → ⊥

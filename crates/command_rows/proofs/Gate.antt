@@ -18,7 +18,7 @@ by_attachment (IsSuspended kept) Without With Claim without with h = without ref
 pub with_attached : (holding : Holding) (Holds : Attachment → Type 0) (Claim : Type 0) → ((a : Attachment) → holding ≡ IsAttached a → Holds a → Claim) → AttachedWith holding Holds → Claim
 with_attached holding Holds Claim with h = by_attachment holding ⊥ Holds Claim (λ is none. absurd none) with h
 
--- the way back: what holds where nothing is attached, or of what is, holds of the holding
+-- the way back: what holds if nothing is attached, or of what is, holds of the holding
 pub unattached : (holding : Holding) (Without : Type 0) (With : Attachment → Type 0) → attachment_in holding ≡ None → Without → MatchOption (attachment_in holding) Without With
 unattached holding Without With is h = subst (λ (o : Option Attachment). MatchOption o Without With) (sym is) h
 

@@ -66,7 +66,7 @@ attached_did answer_to Row Events old said new replying did h =
     (λ a is row. subst (λ (x : Holding). LineDid (Events x) false said old.disk new.disk) (sym is)
     (reply_line answer_to (Events (IsAttached a)) false row.answer said old.disk new.disk replying row.replied (did a row.answer row.row))) h
 
--- one that does nothing
+-- a row that does nothing
 pub attached_quiet : {A : Type 0} (answer_to : Result A Refusal → Answer) (Row : Attachment → Step A) (old : Reach) (said : Answer) (new : Reach) → Replying answer_to → ((a : Attachment) → Quiet (Row a))
     → AttachedWith old.holding (λ a. Replies answer_to (Row a) old said new) → LineDid (λ events. events ≡ []) false said old.disk new.disk
 attached_quiet answer_to Row old said new replying quiet h =

@@ -10,7 +10,7 @@ use Rattle.command_rows.proofs.Lawful.{LineDid, reply_line}
 use Rattle.command_rows.proofs.Replies.{done_replying}
 use Rattle.command_rows.proofs.verbs.{lawful}
 
--- one that is refused before its row
+-- a line that is refused before its row
 refused_did : (Row : List Event → Type 0) (stores : Bool) (old : Reach) (said : Answer) (new : Reach) (refusal : Refusal) → IsRefused old said new refusal → LineDid Row stores said old.disk new.disk
 refused_did Row stores old said new refusal h =
     let d = nothing_done {A = Unit {0}} Row stores refusal old.disk new.disk (same_quiet old new h.unchanged) in

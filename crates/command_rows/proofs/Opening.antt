@@ -116,7 +116,7 @@ read_again d d' m (Err (Meta fault)) holds reads =
     let k : Err fault ≡ metadata_in reads.bytes = reads.answered in
     absurd (cc (h, k))
 
--- ---- they are admitted
+-- ---- the metadata are admitted
 
 slot-accepted : (options : InitOptions) (sectors : ℕ) (m : Metadata) (slot : Option ℕ) → IsAccepted options sectors m → IfSome slot (λ named. named ≡ 0) → slot_matches m slot ≡ Ok tt
 slot-accepted options sectors m None accepted first = accepted.any_slot
@@ -157,7 +157,7 @@ OpensOrFails-refused parts (refusals.CabinetFault word) old new is cause = cause
 OpensOrFails-refused parts refusals.NoMemory old new is cause = tt
 OpensOrFails-refused parts _ old new is cause = absurd (cc is)
 
--- opening has its cause also since an earlier state, whose cabinet is the same
+-- opening has its cause since an earlier state too, whose cabinet is the same
 OpensOrFails-earlier : (earlier old new : Reach) (answer : Result Attachment Refusal) → earlier.disk.faults ≤ old.disk.faults → old.cabinet ≡ earlier.cabinet
     → OpensOrFails old answer new → OpensOrFails earlier answer new
 OpensOrFails-earlier earlier old new (Ok done) later same opens = tt

@@ -59,7 +59,7 @@ attaches_keep false a old (Err refusal) new is h had = absurd h
 
 -- ---- the answers
 
--- what a line counts where it names a drawer
+-- what a line counts if it names a drawer
 abbrev pub CountsReply : Reach → Answer → Reach → Type 0
 CountsReply old reply new = CountsAnswer old.cabinet old.entropy reply new.cabinet new.entropy × Later old new
 

@@ -26,7 +26,7 @@ still_then {A} {B} {First} {Next} first next = record {
 
 -- ---- the steps
 
--- one that changes nothing
+-- a step that changes nothing
 pub still_decision : {A : Type 0} (decided : Reach → Result A Refusal) → ((r : Reach) → UncountedAnswer (decided r)) → Still (λ old answer new. Decides (decided old) old answer new)
 still_decision decided uncounted = record {
   counts = λ old answer new h. decision_counts (decided old) old answer new (uncounted old) h;
@@ -37,7 +37,7 @@ still_decision decided uncounted = record {
 pub done_still : {A : Type 0} (value : A) → Still (Decides (Ok value))
 done_still value = still_decision (λ r. Ok value) (λ r. tt)
 
--- one that only reads the disk
+-- a step that only reads the disk
 pub read_still : {A : Type 0} {Answers : DiskState → Result A Refusal → DiskState → Type 0} → ((old : DiskState) (answer : Result A Refusal) (new : DiskState) → Answers old answer new → UncountedAnswer answer) → Still (ReadsDisk Answers)
 read_still {A} {Answers} uncounted = record {
   counts = λ old answer new h. uncounted_step old answer new (uncounted old.disk answer new.disk h.reads) h.outside.cabinet h.outside.entropy;

@@ -10,7 +10,7 @@ use Rattle.command_rows.specs.Turn.{ChangesAt, IsRefused, Serves, Turn, reach, t
 use Rattle.command_rows.proofs.Lawful.{done_left}
 use Rattle.command_rows.proofs.verbs.{lawful}
 
--- one that is refused before its row
+-- a line that is refused before its row
 refused_left : (Changes : DiskState → Bool → DiskState → Type 0) (old : Reach) (said : Answer) (new : Reach) (refusal : Refusal) → IsRefused old said new refusal → ChangesOrStays Changes said old.disk new.disk
 refused_left Changes old said new refusal h = done_left Changes old.disk (Err refusal) said new.disk h.refused (inl (ap (λ (r : Reach). r.disk.content) h.unchanged))
 

@@ -26,7 +26,7 @@ was_loaded line file old bytes new h = loaded_by line file old h.loaded bytes ne
 pub starts_anew : (line : List ℕ) (file : Span) (old : Reach) (place : ℕ) (new : Reach) → FindsPlace true line file old (Ok place) new → place ≡ 0
 starts_anew line file old place new h = cc h.0
 
--- it is said by the file, which was loaded
+-- the place is said by the file, which was loaded
 pub record OfFile (restart : Bool) (line : List ℕ) (file : Span) (told : Option Files) (place : ℕ) : Type 0 where
   pub loads : restart ≡ false
   pub bytes : List ℕ

@@ -75,7 +75,7 @@ batch_writes k now g next sector after n left rest bytes batch some whole same s
     ∙ data_writes-more k sector n rest batch (generated (rest * w) next).0 (long ∙ size)
     ∙ (λ i. data_writes (sym same i) sector (sym count i) batch ++ data_writes k (sym to i) rest (generated (rest * w) next).0)
 
--- none are left
+-- no sectors are left
 pub left_none : (k : Keying) (sector left : ℕ) (g : Lcg) → left ≡ 0 → left_writes k sector left g ≡ []
 left_none k sector left g none = ap (λ (n : ℕ). left_writes k sector n g) none
 
@@ -90,7 +90,7 @@ pub record HasRead (k : Keying) (start count : ℕ) (old new : DiskState) (hashe
   pub reads : ReadsAs old k start count (Ok bytes)
   pub holds : Holds256 hasher bytes
 
--- and more after them
+-- more sectors were read and hashed after them
 pub HasRead-more : (k now : Keying) (start i count sector : ℕ) (batch : List ℕ) (first middle last : DiskState) (hasher next : Sha256) → now ≡ k → sector ≡ start + i
     → HasRead k start i first middle hasher → SectorsAnswer now sector count middle (Ok batch) last → ((m : List ℕ) → Holds256 hasher m → Holds256 next (m ++ batch))
     → HasRead k start (i + count) first last next

@@ -23,13 +23,13 @@ means t slot readonly = record { key = t.key.bytes; named = slot; readonly = rea
 
 -- ---- what a key that was derived comes to
 
--- it was refused
+-- the key was refused
 pub refused_key : (m : Metadata) (s : Settings) (slot : Option ℕ) (readonly : Bool) (derived : Result UserKey KeyFault) (refusal : Refusal) → Err refusal ≡ or_refusal key_refusal_of derived
     → Err refusal ≡ tried m s slot readonly derived
 refused_key m s slot readonly (Ok key) refusal h = absurd (let no : ⊥ = cc h in no)
 refused_key m s slot readonly (Err fault) refusal h = let same : refusal ≡ key_refusal_of fault = cc h in ap (λ (r : Refusal). Err r) same
 
--- it is tried
+-- the key is tried
 pub tried_key : (m : Metadata) (s : Settings) (slot : Option ℕ) (readonly : Bool) (derived : Result UserKey KeyFault) (key : UserKey) → Ok key ≡ or_refusal key_refusal_of derived
     → tried m s slot readonly (Ok key) ≡ tried m s slot readonly derived
 tried_key m s slot readonly (Ok other) key h = let same : key ≡ other = cc h in ap (λ (k : UserKey). tried m s slot readonly (Ok k)) same
@@ -42,7 +42,7 @@ tried_as t slot readonly found room opens =
     has_room (media_sectors t.params.auth t.params.sectorsize t.params.provsize) (Err (refusals.TooSmall t.params.provsize)) (or_wrong_key (settings_of t.params) readonly (opened t.meta t.key.bytes slot)) room
     ∙ ap (or_wrong_key (settings_of t.params) readonly) opens
 
--- it has none
+-- the provider has no sector
 tried_small : (t : Trial) (slot : Option ℕ) (readonly : Bool) → media_sectors t.params.auth t.params.sectorsize t.params.provsize ≡ 0 → tried_in slot readonly t ≡ Err (refusals.TooSmall t.params.provsize)
 tried_small t slot readonly none =
     let by : ℕ → Result Attachment Refusal = λ n. if n == 0 then Err (refusals.TooSmall t.params.provsize) else or_wrong_key (settings_of t.params) readonly (opened t.meta t.key.bytes slot) in
@@ -84,7 +84,7 @@ no_memory : (s : Settings) (readonly : Bool) (found : Option (MasterKey × ℕ))
 no_memory s readonly None old h = absurd (let no : ⊥ = cc h in no)
 no_memory s readonly (Some found) old h = refl
 
--- none opens, or the provider has no sector
+-- no slot opens, or the provider has no sector
 pub small_as : (t : Trial) (slot : Option ℕ) (readonly : Bool) (disk : DiskState) (size : ℕ) → IsTrial disk.size slot t → answers.AttachFails (target t disk) (means t slot readonly) (attach.TooSmall size)
     → tried_in slot readonly t ≡ Err (refusals.TooSmall size)
 small_as t slot readonly disk size is h =
@@ -110,14 +110,14 @@ pub tries_well : (t : Trial) (slot : Option ℕ) (readonly : Bool) (found : ℕ)
     → Ok tt ≡ without_value (tried_in slot readonly t)
 tries_well t slot readonly found master h = sym (ap without_value (tried_as t slot readonly (Some (record { bytes = master }, found)) h.room h.opened))
 
--- none does
+-- no slot opens
 pub tries_ill : (t : Trial) (slot : Option ℕ) (readonly : Bool) (fault : AttachFault) → SlotFails t.meta t.params t.key.bytes slot fault
     → Err (attach_refusal fault) ≡ without_value (tried_in slot readonly t)
 tries_ill t slot readonly (attach.TooSmall size) h = sym (ap without_value (tried_small t slot readonly h.0 ∙ ap (λ (n : ℕ). Err (refusals.TooSmall n)) (sym h.1)))
 tries_ill t slot readonly attach.WrongKey h = sym (ap without_value (tried_as t slot readonly None h.0 h.1))
 tries_ill t slot readonly attach.NoMemory h = absurd h
 
--- none is attached, and the disk comes back
+-- no provider is attached, and the disk comes back
 pub not_taken : {D : Type 0} (state : D → DiskState) (t : Trial) (slot : Option ℕ) (readonly : Bool) (given disk : D) (fault : AttachFault) (cabinet : CabinetState) (entropy : EntropyState) → IsTrial (state given).size slot t
     → answers.AttachAnswers (target t (state given)) (means t slot readonly) given (Err (disk, fault))
     → GoesOn Attaches (tried_in slot readonly t) (reach_of (state given) Idle cabinet entropy) (Err (attach_refusal fault)) (reach_of (state disk) Idle cabinet entropy)

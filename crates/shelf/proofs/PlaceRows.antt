@@ -19,7 +19,7 @@ no_room_by : (size : ℕ) (enough : Bool) → size < 2 → nat_le 2 size ≡ eno
 no_room_by size true small test = absurd (grind (arith, nat_tests))
 no_room_by size false small test = refl
 
--- it was read, and its bytes go on
+-- the last sector was read, and its bytes are used further
 last_read : (line : List ℕ) (file : Span) (holding : Holding) (cabinet : CabinetState) (entropy : EntropyState) (disk : DiskState) (bytes : List ℕ) (disk' : DiskState) (answer : Result (Unit {0}) Refusal) (new : Reach) → ReadsSector disk bytes disk'
     → Then (Decides (or_refusal refusal_of (metadata_in bytes))) (λ _. StoresBytes line file bytes) (reach_of disk' holding cabinet entropy) answer new → BackupRow line file (reach_of disk holding cabinet entropy) answer new
 last_read line file holding cabinet entropy disk bytes disk' answer new reads next =
@@ -44,7 +44,7 @@ backup_stored line file holding cabinet entropy disk bytes disk' answer new h st
 
 -- ---- a drawer that isn't idle
 
--- it stays as it was
+-- the drawer stays as it was
 pub held_row : (line : List ℕ) (command : Command) (before after : Holding) (disk disk' : DiskState) (cabinet cabinet' : CabinetState) (entropy : EntropyState) (answer : Answer) → after ≡ before
     → GoesThrough line command (reach_of disk before cabinet entropy) answer (reach_of disk' before cabinet' entropy)
     → GoesThrough line command (reach_of disk before cabinet entropy) answer (reach_of disk' after cabinet' entropy)

@@ -24,7 +24,7 @@ goes_as kept given answer old said new is h = subst (λ (g : Result Attachment R
 attaches_again : (kept : Kept) (a : Attachment) (old : Reach) (said : Result (Unit {0}) Refusal) (new : Reach) → same_key kept a ≡ Ok tt → Attaches a old said new → AttachesAgain kept a old said new
 attaches_again kept a old said new same h = record { given = Ok tt; middle = old; first = (sym same, refl); next = h }
 
--- it is another
+-- the key is another
 refuses_another : (kept : Kept) (a : Attachment) (old : Reach) → same_key kept a ≡ Err refusals.DifferentKey → AttachesAgain kept a old (Err refusals.DifferentKey) old
 refuses_another kept a old other = record { given = Err refusals.DifferentKey; middle = old; first = (sym other, refl); next = (refl, refl) }
 
@@ -45,7 +45,7 @@ taken_up {D = D} state t s p cabinet entropy is resumed =
     goes_as (kept_of s) _ (Ok (attachment_of [] p)) _ (Ok tt) _ (opens_as t None s.readonly (state s.disk) s.disk p is resumed.attached)
     (attaches_again (kept_of s) (attachment_of [] p) _ (Ok tt) _ (same_is_key (kept_of s) (attachment_of [] p) resumed.same) (ap (λ (d : D). reach_of (state d) (IsAttached (attachment_of [] p)) cabinet entropy) resumed.attached.disk))
 
--- ---- it isn't
+-- ---- the provider isn't attached again
 
 fails_as : {D : Type 0} (t : Trial) (s : Suspension D) (disk : DiskState) (fault : ResumeFault) (old : Reach) → IsTrial disk.size None t → ResumeFails (target t disk) (means t None s.readonly) s.mark fault
     → GoesOn (AttachesAgain (kept_of s)) (tried_in None s.readonly t) old (Err (resume_refusal fault)) old
@@ -60,7 +60,7 @@ fails_as t s disk resume.NoMemory old is h =
     goes_as (kept_of s) _ (Ok a) old _ old (tried_opens t s disk h.slot h.master is h.opens)
     (attaches_again (kept_of s) a old (Err refusals.NoMemory) old (same_is_key (kept_of s) a h.same) refl)
 
--- it is suspended as before
+-- the provider is suspended as before
 pub not_taken_up : {D : Type 0} (state : D → DiskState) (t : Trial) (s s' : Suspension D) (fault : ResumeFault) (cabinet : CabinetState) (entropy : EntropyState) → IsTrial (state s.disk).size None t
     → ResumeAnswers (target t (state s.disk)) (means t None s.readonly) s (Err (s', fault))
     → GoesOn (AttachesAgain (kept_of s)) (tried_in None s.readonly t) (reach_of (state s.disk) (IsSuspended (kept_of s)) cabinet entropy) (Err (resume_refusal fault))

@@ -27,6 +27,6 @@ none_open (r ∷ queue) none = absurd (omega (arith, none))
 pub refused_open : (a : Attachment) (old : Reach) → 0 < length a.queue → SuspendRow a old (Err (refusals.RequestsOpen (length a.queue))) old
 refused_open a old some = record { given = Err (refusals.RequestsOpen (length a.queue)); middle = old; first = (sym (some_open a.queue some), refl); next = (refl, refl) }
 
--- none is, and it is suspended
+-- no request is open, and the provider is suspended
 pub suspended_so : (a : Attachment) (old : Reach) (answer : Result (Unit {0}) Refusal) (new : Reach) → length a.queue ≤ 0 → Suspends a old answer new → SuspendRow a old answer new
 suspended_so a old answer new none h = record { given = Ok tt; middle = old; first = (sym (none_open a.queue none), refl); next = h }

@@ -83,7 +83,7 @@ place_loaded line file disk holding entropy old new bytes told within keeps aske
     Then-goes_on (LoadsPlace line file) _ (reach_of disk holding old entropy) (reach_of disk holding new entropy) (Some bytes) _ _
     (place_load line file disk holding entropy old new (Ok bytes) told within tt tt keeps asked unstored) (refl, refl)
 
--- it wasn't
+-- the file of the place wasn't loaded
 pub place_unloaded : (line : List ℕ) (file : Span) (disk : DiskState) (holding : Holding) (entropy : EntropyState) (old new : CabinetState) (refusal : Refusal)
     → IfSome old.files (λ files. IsAnswer {T = List ℕ} (file_answer file.word place_size (files (bytes_at line file))) (Err refusal)) → IfSome (refused_word refusal) (λ word. file.word ≡ word) → MayRefuse place_size old new refusal
     → KeepsFiles old new → Counted 1 old.loads new.loads → new.stores ≡ old.stores → FindsPlace false line file (reach_of disk holding old entropy) (without_file refusal) (reach_of disk holding new entropy)

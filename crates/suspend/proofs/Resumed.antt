@@ -60,7 +60,7 @@ resumed_so {D = D} t by s slot master p is opens same here = subst (λ (q : Atta
 
 -- ---- the master key that opened
 
--- the slot that opened gives it, whether it was named or not
+-- the slot that opened gives the master key, whether it was named or not
 pub opens_so : (m : Metadata) (u : List ℕ) (named : Option ℕ) (s : ℕ) (master : List ℕ) → OpensAsNamed m u named s master → Opens m u s master
 opens_so m u None s master opens = opens.opens
 opens_so m u (Some slot) s master opens = opens.1

@@ -85,7 +85,7 @@ attach_next : (only_check : Bool) (given : Result Attachment Refusal) (middle : 
 attach_next only_check (Ok a) middle answer new none h = attached_new only_check a middle answer new none h
 attach_next only_check (Err refusal) middle answer new none h = inl (ap (λ (r : Reach). r.holding) h.1)
 
--- `attach`, where nothing was
+-- `attach`, if nothing was attached
 attach_keeps : (line : List ℕ) (only_check readonly : Bool) (slot : Option ℕ) (words : KeyWords) (old : Reach) (answer : Result (Unit {0}) Refusal) (new : Reach) → attachment_in old.holding ≡ None → AttachRow line only_check readonly slot words old answer new → KeepsRequests old.holding new.holding
 attach_keeps line only_check readonly slot words old answer new none h =
     let same : h.middle.holding ≡ old.holding = (try_still line slot readonly words).stays old h.given h.middle h.first in

@@ -126,7 +126,7 @@ resume_row line names kept =
     unstored_then (try_still line None kept.readonly names).unstored
     (λ a. unstored_then (same_still kept a).unstored (λ done. attaching_unstored a))
 
--- `resume`, where nothing was attached
+-- `resume`, if nothing was attached
 again_new : (a : Attachment) (given : Result (Unit {0}) Refusal) (old middle : Reach) (answer : Result (Unit {0}) Refusal) (new : Reach) → a.queue ≡ [] → middle ≡ old → GoesOn (λ _. Attaches a) given middle answer new → (new.holding ≡ old.holding) ⊎ IsNew new.holding
 again_new a (Ok done) old middle answer new none same h =
     elim (attached_new false a middle answer new none h) [

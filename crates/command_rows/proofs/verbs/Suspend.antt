@@ -82,7 +82,7 @@ suspending_unstored a old answer new h = same_files old.cabinet new.cabinet h.ou
 suspend_row : (a : Attachment) → Unstored (SuspendRow a)
 suspend_row a = unstored_then (none_open_still a).unstored (λ done. suspending_unstored a)
 
--- `suspend`, where none is open
+-- `suspend`, if no request is open
 suspend_keeps : (a : Attachment) (old : Reach) (given : Result (Unit {0}) Refusal) (middle : Reach) (answer : Result (Unit {0}) Refusal) (new : Reach) → NeedsNoRequests a old given middle → GoesOn (λ _. Suspends a) given middle answer new
     → KeepsRequests old.holding new.holding
 suspend_keeps a old (Ok done) middle answer new first h = inr (inl (ap attachment_in h.holding))

@@ -14,7 +14,7 @@ tagged_uncounted : (tagged : Bool) → UncountedAnswer (if_tagged tagged)
 tagged_uncounted true = tt
 tagged_uncounted false = tt
 
--- one that is absent is no refusal
+-- a file that is absent is no refusal
 absent_counts : (old : Reach) (loaded : Result (List ℕ) Refusal) (new : Reach) → CountsResult old loaded new → CountsResult old (unless_absent loaded) new
 absent_counts old (Ok bytes) new h = tt
 absent_counts old (Err (refusals.FileAbsent word)) new h = tt
@@ -191,7 +191,7 @@ long_out : (word limit there : ℕ) (file : Option (List ℕ)) → SaysPlace the
 long_out word limit there None says bad = let none : ⊥ = cc bad in none
 long_out word limit there (Some bytes) says bad = not_both _ bytes (refusals.FileTooLong word limit) (eight_loaded word bytes says.0) bad
 
--- it says a place that is there
+-- the file says a place that is there
 number_out : (word there : ℕ) (bytes : List ℕ) (refusal : Refusal) → SaysPlace there (Some bytes) → (place_in word (Some bytes) ≡ Err refusal) ⊎ SaysTooFar word bytes there refusal → ⊥
 number_out word there bytes refusal says (inl bad) = not_both _ (from_le_bytes w64 bytes) refusal (eight_says word bytes says.0) bad
 number_out word there bytes refusal says (inr far) =

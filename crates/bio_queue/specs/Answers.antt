@@ -1,4 +1,4 @@
--- What the calls of a queue answer, each answer with its cause, and what they leave.
+-- What the calls of a queue return, each result with its cause, and what they leave.
 use Rattle.std.specs.Prelude.{◌≡◌, ℕ, ◌+◌, ◌*◌, ◌<◌, ◌≤◌, Bool, true, false, List, [], ◌++◌, length, drop, replicate, Some, None, Result, Ok, Err}
 use Rattle.block_traits.specs.Causes.{Counted}
 use Rattle.block_traits.specs.Disk.{DiskState, FailsIn, Gives, Logs}
@@ -92,7 +92,7 @@ pub record IsSubmitted (k : Keying) (readonly : Bool) (d : DiskState) (job : Job
   pub free : IsLeastFree tag old
   pub queue : new ≡ put_in (asked k tag job from) old
 
--- what submitting a job answers, by the keying of the provider, whether it is read-only, and its disk
+-- what submitting a job returns, by the keying of the provider, whether it is read-only, and its disk
 abbrev pub SubmitAnswers : Keying → Bool → DiskState → Job → List ℕ → List Request → List Request → Result ℕ SubmitFault → Type 0
 SubmitAnswers k readonly d job from old new (Ok tag) = IsSubmitted k readonly d job from old new tag
 SubmitAnswers k readonly d job from old new (Err fault) = IsRefusedBy readonly (media k d) job (length old) fault × (new ≡ old)
@@ -139,7 +139,7 @@ pub record IsAllDone (tag : ℕ) (old : List Request) : Type 0 where
   pub found : request_with tag old ≡ Some request
   pub none : left_of request ≡ 0
 
--- what a step answers: `before` and `after` are what the disk tells of itself
+-- what a step returns: `before` and `after` are what the disk tells of itself
 abbrev pub StepAnswers : ℕ → List Request → List Request → DiskState → DiskState → Result ℕ StepFault → Type 0
 StepAnswers tag old new before after (Ok left) = StepsOn tag left old new before after
 StepAnswers tag old new before after (Err step.NoRequest) = (request_with tag old ≡ None) × (new ≡ old) × (after ≡ before)
@@ -197,7 +197,7 @@ pub record IsNotDone (tag left : ℕ) (old : List Request) : Type 0 where
   pub some : 1 ≤ left
   pub rest : left ≡ left_of request
 
--- what reaping answers: `before` and `after` are the bytes of the buffer
+-- what reaping returns: `before` and `after` are the bytes of the buffer
 abbrev pub ReapAnswers : Keying → ℕ → List Request → List Request → List ℕ → List ℕ → Result Reaped ReapFault → Type 0
 ReapAnswers k tag old new before after (Ok reaped) = TakesOut tag old new (λ r. Gave k r.job r.device before after reaped)
 ReapAnswers k tag old new before after (Err reap.NoRequest) = (request_with tag old ≡ None) × (new ≡ old) × (after ≡ before)

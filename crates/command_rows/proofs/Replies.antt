@@ -1,4 +1,4 @@
--- What the answer of a row comes to as a reply, whatever is answered, and its text.
+-- What the answer of a row comes to as a reply, whatever it is, and its text.
 use Rattle.std.proofs.Common.{◌≡◌, ◌∙◌, ℕ, zero, suc, List, length, drop, refl, ap, sym, subst, Option, Some, None, Result, Ok, Err}
 use Rattle.reply_text.specs.Text.{numbers_in, reply_text, verified_text}
 use Rattle.reply_text.specs.declared.reply.Reply.{Reply}

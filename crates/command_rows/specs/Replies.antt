@@ -35,7 +35,7 @@ reaped_or (Ok (Some bytes)) = answers.Payload bytes
 reaped_or (Ok None) = answers.Done
 reaped_or (Err refusal) = answers.Refused refusal
 
--- the row was gone through, and its answer is replied like this
+-- the row was gone through, and the reply is made of its answer
 pub record Replies {A : Type 0} (answer_to : Result A Refusal → Answer) (Row : Reach → Result A Refusal → Reach → Type 0) (old : Reach) (reply : Answer) (new : Reach) : Type 0 where
   pub answer : Result A Refusal
   pub row : Row old answer new

@@ -1,4 +1,5 @@
--- The steps of which commands consist. A step answers a value or a refusal, and may change what the command reaches.
+-- The steps of which commands consist. The answer of a step is a value or a refusal, and the step may change what the
+-- command reaches.
 use Rattle.std.specs.Prelude.{Bool, Err, IfErr, IfOk, IfSome, List, None, Ok, Option, Result, Some, [], false, if◌then◌else◌, length, nat_le, true, ℕ, ◌%◌, ◌&&◌, ◌*◌, ◌++◌, ◌+◌, ◌/◌, ◌==◌, ◌||◌, ◌∷◌, ◌≡◌, ◌≤◌}
 use Rattle.block_traits.specs.declared.cabinet.StoreFault.{StoreFault}
 use Rattle.block_traits.specs.declared.cabinet.StoreFault.TheVariants as store

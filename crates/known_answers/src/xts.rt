@@ -126,7 +126,7 @@ struct Row {
     digest: [u128; 2],
 }
 
-// Another implementation's answers, by tools/mode_tables.py.
+// Another implementation's results, by tools/mode_tables.py.
 const ROWS: [Row; 6] = [
     Row {
         first: [

@@ -1,4 +1,4 @@
--- What a provider answers that is attached upon a disk upon a provider, on an image that was left below.
+-- What a provider that is attached upon a disk upon a provider reads, on an image that was left below.
 use Rattle.std.proofs.Common.{◌≡◌, ℕ, zero, suc, ◌+◌, ◌-◌, ◌*◌, ◌/◌, ◌≤◌, List, ◌∷◌, length, refl, sym, ap, ◌∙◌, subst, arith, Option, Some, Result, Ok, Err}
 use Rattle.std.specs.Option.{option_map}
 use Rattle.block_traits.specs.declared.disk.Event.{Event}

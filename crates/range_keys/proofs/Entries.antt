@@ -11,7 +11,7 @@ use Rattle.lru.specs.LruCache.{LruCache, promoted, put_entries}
 use Rattle.lru.proofs.CallerLemmas.{Contains-lookup_entry}
 use Rattle.range_keys.specs.Numbers.{AfterUse, room}
 
--- a number is among those of the entries exactly where a look-up finds it
+-- a number is among those of the entries exactly if a look-up finds it
 pub Contains-found : {V : Type 0} → (n : ℕ) (es : List (ℕ × V)) → is_some (lookup (nat_eq n) es) ≡ true → Contains (keys_of es) n
 Contains-found n es h = Contains-from_any eqb-true n (keys_of es) (sym (is_some-lookup (nat_eq n) es) ∙ h)
 

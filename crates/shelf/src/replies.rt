@@ -1,4 +1,4 @@
-//! What a command answers, as a reply.
+//! What a command returns, as a reply.
 ghost use Rattle.std.specs.Prelude.{◌≡◌, ◌*◌, ◌≤◌, ℕ, List, IfOk, IfSome};
 ghost use Rattle.command_rows.specs.Answer.{answer_of};
 ghost use Rattle.command_rows.specs.Requests.{bytes_given, bytes_read};

@@ -13,7 +13,7 @@ use Rattle.verify_sweep.specs.Parts.{units_read_from}
 use Rattle.verify_sweep.specs.Sweeping.{Fails, failing_units, unit_readings_at}
 use Rattle.verify_sweep.proofs.Listing.{failing-of, length-standing, unit_readings_at-append, standing-append}
 
--- ---- an offset is listed exactly where the unit there fails
+-- ---- an offset is listed exactly if the unit there fails
 
 not_accepted : (r : Result (List ℕ) ℕ) (offset : ℕ) → is_ok r ≡ true → r ≡ Err offset → ⊥
 not_accepted (Ok bytes) offset h g = cc

@@ -49,8 +49,8 @@ content_above k c events steps t = moment (steps_above k c events t) steps (open
 
 -- What `Endures` (readings) promises of a logical sector of a provider under keying j that stands on a disk upon a
 -- provider under keying k, carried over to the images of the disk below: each is opened, and then reads as promised of
--- the steps done above. In torn and altered images the last data sector below holds a kept value: it has the metadata
--- above.
+-- the steps done above. A torn or altered image is taken to hold a kept value in the last data sector below, which has
+-- the metadata above.
 pub record EnduresBelow (k j : Keying) (c : Content) (events : List Event) (steps : List Step) (t sector : ℕ) : Type 0 where
   pub whole : (choice : ℕ → ℕ) (image : List (List ℕ)) → IsImage (content_below c events t) choice image →
       image_units j sector (opened_data_sectors k image) ≡ read j sector (chosen j sector (cells_above k c events steps t) choice)

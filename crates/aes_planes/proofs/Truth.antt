@@ -121,7 +121,7 @@ sbox_circuit x lt =
     ∙ ap (λ (l : List (List ℕ)). get_or l x []) sbox_bits ∙ get_or-map (λ b. bits_of (bit_xor b 0x63)) sbox_table x 0 [] lt
     ∙ ap (λ (b : ℕ). bits_of (bit_xor b 0x63)) (sbox_entry x lt)
 
--- ---- its inverse
+-- ---- the inverse S-box
 
 abbrev inverse_on_every_byte : List ℕ
 inverse_on_every_byte =

@@ -30,7 +30,7 @@ pub enum StoreFault {
 
 /// A cabinet: a store of whole files, each with a name.
 pub trait Cabinet {
-    /// The cabinet's files, if it tells them; it does so always or never. Then counts, none of which falls: of
+    /// The cabinet's files, if it tells them, as it does always or never. Then counts, none of which falls: of
     /// failures, of files that were absent or too long, of loads and of stores.
     ghost state: { Self → CabinetState };
 

@@ -32,9 +32,9 @@ pub fn sector_of(bytes: &[u8], j: usize) -> Sector
 
 /// A disk of fewer than 2^44 sectors.
 pub trait Disk: Drop {
-    /// The size, and whether the disk shows its events; neither ever changes. The content, if the disk tells it; it
-    /// does so always or never. A count of faults, which never falls. A count of the reads that the disk was asked for
-    /// and of those that looks have served. What the disk tells is well formed.
+    /// The size, and whether the disk shows its events; neither ever changes. The content, if the disk tells it, as it
+    /// does always or never. A count of faults, which never falls. A count of the reads that the disk was asked for and
+    /// of those that looks have served. What the disk tells is well formed.
     ghost state: { Self → DiskState };
 
     /// The size in sectors.

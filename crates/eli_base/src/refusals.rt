@@ -93,7 +93,7 @@ pub enum Refusal {
     CabinetFault { word: u32 },
     /// The random bytes could not be had.
     EntropyFault,
-    /// With the file of this word this limit in bytes is passed.
+    /// With the file that this word names, this limit in bytes is exceeded.
     FileTooLong { word: u32, limit: u64 },
     /// The backup has too few bytes.
     BackupTooShort { length: u64 },

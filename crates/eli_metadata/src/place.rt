@@ -58,9 +58,9 @@ pub fn read_metadata<P: MetaPlace>(place: &mut P) -> Result<Metadata, ReadMetaFa
     decode(&bytes).map_err(ReadMetaFault::Meta)
 }
 
-/// Replaces what the last sector has by metadata: flushes what was written before, writes the metadata, and flushes
-/// again. After a failure the first few of these three events were done (none, some or all), and no others. Nothing is
-/// read.
+/// Replaces the content of the last sector by metadata: flushes what was written before, writes the metadata, and
+/// flushes again. After a failure the first few of these three events were done (none, some or all), and no others.
+/// Nothing is read.
 ///
 /// The sector that is written is read as this metadata, if its version is one that is read.
 pub fn replace_metadata<D: Disk>(disk: &mut D, meta: &Metadata) -> Result<(), DiskFailed>

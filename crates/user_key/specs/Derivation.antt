@@ -25,7 +25,8 @@ abbrev pub stretched : List ℕ → List ℕ → ℕ → List ℕ
 stretched passphrase salt iterations =
     (if iterations == 0 then salt ++ passphrase else pbkdf2 passphrase salt iterations)
 
--- what stands after the key files for a passphrase that may be left out: nothing, or the stretched passphrase
+-- what stands after the key files for a passphrase that may be left out: nothing, or the passphrase, stretched or
+-- salted
 abbrev pub passphrase_part : PassPart → List ℕ → ℕ → List ℕ
 passphrase_part Without salt iterations = []
 passphrase_part Missing salt iterations = []

@@ -42,7 +42,7 @@ encrypt_is key b =
     ∙ ap (λ (s : List ℕ). xor (shift_rows (map sbox s)) (round_key (expanded_by sbox key (key_words key) (4 * (rounds key + 1) - key_words key)) (n + 1)))
     (after_rounds_is (expanded_by sbox key (key_words key) (4 * (rounds key + 1) - key_words key)) b n)
 
--- the S-box, from its table where that has it
+-- the S-box, from its table for the bytes that the table has
 abbrev pub cached_sbox : ℕ → ℕ
 cached_sbox b = if nat_lt b 256 then get_or sbox_table b 0 else sbox b
 

@@ -1,4 +1,4 @@
--- Each entry of the tables of columns, a column from four of them, and a round by columns, both ways.
+-- Each entry of the tables of columns, a column from four of them, and a round by columns.
 use Rattle.std.proofs.Common.{◌≡◌, ℕ, zero, suc, ◌^◌, ◌+◌, ◌-◌, ◌*◌, ◌<◌, ◌/◌, ◌%◌, List, [], ◌∷◌, length, map, get_or, bit_xor, bit_and, refl, sym, ap, subst, ◌∙◌, arith, lit<, zero-add}
 use Rattle.std.proofs.lemmas.Nat.{xor_block, xor_of_8}
 use Rattle.std.specs.Int.Bits.{xor_zero_l, xor_zero_r}
@@ -15,7 +15,7 @@ use Rattle.aes_core.proofs.Inverse.{by_index, times-lt, power-lt, sum4, sum4-rot
 use Rattle.aes_core.specs.Columns.{word_of, word_at, words_of, mixed_word}
 use Rattle.aes_core.specs.declared.column_tables.TheConstants.{ROW_0, ROW_1, ROW_2, ROW_3}
 
--- what a table has at x, where the S-box's table gives it by f
+-- what a table has at x, if f makes the table from that of the S-box
 row_entry : (row : List ℕ) (f : ℕ → ℕ) (x : ℕ) → map f sbox_table ≡ row → x < 256 → get_or row x 0 ≡ f (sbox x)
 row_entry row f x same lt = sym (ap (λ (l : List ℕ). get_or l x 0) same) ∙ get_or-map f sbox_table x 0 0 lt ∙ ap f (sbox_entry x lt)
 
@@ -81,7 +81,7 @@ column_is a b c d la lb lc ld =
 
 -- ---- the S-box in the tables
 
--- the part of an entry under a mask, where the S-box's table gives it by f
+-- the part of an entry under a mask, if f makes these parts from the table of the S-box
 part_entry : (row : List ℕ) (mask : ℕ) (f : ℕ → ℕ) (x : ℕ) → length row ≡ 256 → map (λ w. bit_and w mask) row ≡ map f sbox_table → x < 256
     → bit_and (get_or row x 0) mask ≡ f (sbox x)
 part_entry row mask f x long same lt =
@@ -213,7 +213,7 @@ word_at-round_key keys r i lt =
 
 -- ---- a round
 
--- a column of which row 0 stands at place i, row 1 at the one behind j, and so on
+-- a column of which row 0 stands at place i, row 1 at place j + 1, and so on
 rows_at : (f : ℕ → ℕ → ℕ → ℕ → ℕ) (s : List ℕ) (i j k l : ℕ) → IsState s
     → f (sbox (word_at s i % 256)) (sbox (word_at s j / 2 ^ 8 % 256)) (sbox (word_at s k / 2 ^ 16 % 256)) (sbox (word_at s l / 2 ^ 24))
     ≡ f (sbox (get_or s i 0)) (sbox (get_or s (j + 1) 0)) (sbox (get_or s (k + 2) 0)) (sbox (get_or s (l + 3) 0))
@@ -265,7 +265,7 @@ pub round_is : (w s key k : List ℕ) (m0 m1 m2 m3 : ℕ) → IsState s → IsSt
 round_is w s key k m0 m1 m2 m3 h hk e ek =
     sum_is (λ a b c d. mixed_word a b c d) w s (mix_columns (shift_rows (sub_bytes s))) key k m0 m1 m2 m3 h (IsState-mix_columns (shift_rows (sub_bytes s))) hk e (mixed_words s h.long) ek
 
--- the same of the last round
+-- the words of a state after the last round, from those before it
 pub last_round_is : (w s key k : List ℕ) (m0 m1 m2 m3 : ℕ) → IsState s → IsState key → w ≡ words_of s → k ≡ words_of key
     → m0 ≡ word_of (sbox (get_or w 0 0 % 256)) (sbox (get_or w 1 0 / 2 ^ 8 % 256)) (sbox (get_or w 2 0 / 2 ^ 16 % 256)) (sbox (get_or w 3 0 / 2 ^ 24))
     → m1 ≡ word_of (sbox (get_or w 1 0 % 256)) (sbox (get_or w 2 0 / 2 ^ 8 % 256)) (sbox (get_or w 3 0 / 2 ^ 16 % 256)) (sbox (get_or w 0 0 / 2 ^ 24))

@@ -1,4 +1,4 @@
--- How the key expansion grows in a buffer of 240 bytes with zeros behind it.
+-- How the key expansion grows in a buffer of 240 bytes, with zeros after it.
 use Rattle.std.proofs.Common.{◌≡◌, ℕ, zero, suc, ◌+◌, ◌-◌, ◌*◌, ◌/◌, ◌%◌, ◌≤◌, List, ◌++◌, length, take, drop, replicate, cond, bit_xor, nat_eq, ◌&&◌, sym, ap, ◌∙◌, add-one, arith, append_assoc, length-append}
 use Rattle.std.proofs.lemmas.List.{length-map, take_at, drop_at, take-append-le, drop-append-le, drop-replicate, length-drop, length-take-le}
 use Rattle.std.proofs.lemmas.Simd.{length-zip2, length-chunk}

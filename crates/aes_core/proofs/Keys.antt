@@ -63,7 +63,7 @@ decrypt_from keys key b r nk h e er =
     let count : nk + 5 ≡ rounds key - 1 = omega arith in
     er ∙ ap (λ (w : List ℕ). deciphered w (nk + 5) b) is ∙ deciphered-append (key_schedule key) z b (nk + 5) (omega arith) ∙ ap (λ (m : ℕ). deciphered (key_schedule key) m b) count
 
--- the key stands at the front
+-- the key stands at the front of the key expansion
 take-expanded : (key : List ℕ) (nk n : ℕ) → length key ≡ 4 * nk → 1 ≤ nk → take (length key) (expanded key nk n) ≡ key
 unfolding expanded
 take-expanded key nk zero len low = take_all (length key) key (omega arith)
@@ -97,7 +97,7 @@ IsSchedule_new key keys nk len even low high small e =
       expanded = e ∙ ap (λ (k : ℕ). key_schedule key ++ replicate (240 - 16 * (k + 7)) 0) words ∙ ap padded_schedule (sym front);
     }
 
--- the zeros behind the round keys change nothing
+-- the zeros after the round keys change nothing
 pub enciphered-padded : (key b : List ℕ) → IsKey key → enciphered (padded_schedule key) (rounds key - 1) b ≡ encrypt key b
 unfolding encrypt padded_schedule
 enciphered-padded key b h =

@@ -19,7 +19,7 @@ after_rounds_step w b s s1 s2 s3 r n e e1 e2 e3 e4 =
     let next : after_rounds w b (n + 1) ≡ xor (mix_columns (shift_rows (sub_bytes (after_rounds w b n)))) (round_key w (n + 1)) = ap (after_rounds w b) (add-one n) in
     e4 ∙ ap (λ (x : List ℕ). xor x (round_key w (n + 1))) (e3 ∙ ap mix_columns (e2 ∙ ap shift_rows (e1 ∙ ap sub_bytes e))) ∙ sym next
 
--- the columns behind round r, by those behind the round before it
+-- the columns after round r, by those after the round before it
 pub behind_round : (keys b : List ℕ) (w next : List ℕ) (n r : ℕ) → r ≡ n + 1 → ((s : List ℕ) → IsState s → w ≡ words_of s → next ≡ words_of (xor (mix_columns (shift_rows (sub_bytes s))) (round_key keys r)))
     → IsState (after_rounds keys b n) → w ≡ words_of (after_rounds keys b n) → next ≡ words_of (after_rounds keys b r)
 behind_round keys b w next n r is round state held =
@@ -50,7 +50,7 @@ times_step s x p b k t held e =
     let rest : ℕ = times_bits (times_x p) (b / 2) k in
     xor_assoc s x rest ∙ ap (λ (y : ℕ). bit_xor s (bit_xor y rest)) (sym e) ∙ held
 
--- the same, at places that count up
+-- one bit of b more, at places that count up: x is what it adds
 pub times_more : (s x p b i t : ℕ) → i < 8 → bit_xor s (times_bits p b (8 - i)) ≡ t → b % 2 * p ≡ x → bit_xor (bit_xor s x) (times_bits (times_x p) (b / 2) (8 - (i + 1))) ≡ t
 times_more s x p b i t lt held e =
     let left : 8 - i ≡ suc (8 - (i + 1)) = omega arith in

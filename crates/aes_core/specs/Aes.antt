@@ -18,7 +18,7 @@ byte_of_bits b = b 0 + 2 * b 1 + 4 * b 2 + 8 * b 3 + 16 * b 4 + 32 * b 5 + 64 * 
 abbrev pub affine : ℕ → ℕ
 affine b = byte_of_bits (λ i. (bit b i + bit b ((i + 4) % 8) + bit b ((i + 5) % 8) + bit b ((i + 6) % 8) + bit b ((i + 7) % 8) + bit 0x63 i) % 2)
 
--- the map that undoes it (5.3.2)
+-- the inverse of the affine map (5.3.2)
 abbrev pub inverse_affine : ℕ → ℕ
 inverse_affine b = byte_of_bits (λ i. (bit b ((i + 2) % 8) + bit b ((i + 5) % 8) + bit b ((i + 7) % 8) + bit 0x05 i) % 2)
 
@@ -81,11 +81,11 @@ inverse_mix_columns s = times_circulant (14 ∷ 11 ∷ 13 ∷ 9 ∷ []) s
 abbrev pub word : List ℕ → ℕ → List ℕ
 word w i = chunk (4 * i) 4 w
 
--- RotWord
+-- RotWord: the first byte becomes the last
 abbrev pub rotated : List ℕ → List ℕ
 rotated w = drop 1 w ++ take 1 w
 
--- rcon j
+-- the round constant Rcon j, a word
 abbrev pub round_constant : ℕ → List ℕ
 round_constant j = power 2 (j - 1) ∷ 0 ∷ 0 ∷ 0 ∷ []
 
@@ -125,7 +125,7 @@ unfoldable pub after_rounds : List ℕ → List ℕ → ℕ → List ℕ
 after_rounds w b zero = xor b (round_key w 0)
 after_rounds w b (suc n) = xor (mix_columns (shift_rows (sub_bytes (after_rounds w b n)))) (round_key w (n + 1))
 
--- the last of n + 1 rounds
+-- the state after n + 1 rounds, the last of them without MixColumns
 abbrev pub enciphered : List ℕ → ℕ → List ℕ → List ℕ
 enciphered w n b = xor (shift_rows (sub_bytes (after_rounds w b n))) (round_key w (n + 1))
 
@@ -135,14 +135,14 @@ after_inverse_rounds w m b zero = xor b (round_key w (m + 1))
 after_inverse_rounds w m b (suc n) =
     inverse_mix_columns (xor (inverse_sub_bytes (inverse_shift_rows (after_inverse_rounds w m b n))) (round_key w (m - n)))
 
--- the last inverse round
+-- the state after m + 1 inverse rounds, the last of them without InvMixColumns
 abbrev pub deciphered : List ℕ → ℕ → List ℕ → List ℕ
 deciphered w m b = xor (inverse_sub_bytes (inverse_shift_rows (after_inverse_rounds w m b m))) (round_key w 0)
 
--- AES of a block of 16 bytes, under a key of 16, 24 or 32 bytes
+-- the cipher, on a block of 16 bytes under a key of 16, 24 or 32 bytes (5.1)
 unfoldable pub encrypt : List ℕ → List ℕ → List ℕ
 encrypt key b = enciphered (key_schedule key) (rounds key - 1) b
 
--- its inverse
+-- the inverse cipher, on a block of 16 bytes under a key of 16, 24 or 32 bytes (5.3)
 unfoldable pub decrypt : List ℕ → List ℕ → List ℕ
 decrypt key b = deciphered (key_schedule key) (rounds key - 1) b

@@ -1,4 +1,4 @@
--- A column of a state (FIPS 197, 3.4) as a word, and MixColumns (5.1.3) and its inverse (5.3.3) on it.
+-- A column of a state (FIPS 197, 3.4) as a word, and MixColumns (5.1.3) on it.
 use Rattle.std.specs.Prelude.{ℕ, ◌+◌, ◌*◌, List, [], ◌∷◌, bit_xor, slice_index}
 use Rattle.aes_core.specs.Field.{times}
 

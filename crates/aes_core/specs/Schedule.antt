@@ -15,7 +15,7 @@ pub record IsKey (key : List ℕ) : Type 0 where
   pub long : IsKeyLength (length key)
   pub bytes : AreBytes key
 
--- the round keys of a key, with zeros behind them up to 240 bytes
+-- the round keys of a key, with zeros after them up to 240 bytes
 unfoldable pub padded_schedule : List ℕ → List ℕ
 padded_schedule key = key_schedule key ++ replicate (240 - 16 * (key_words key + 7)) 0
 

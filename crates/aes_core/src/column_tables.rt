@@ -141,5 +141,5 @@ const ROW_3: [u32; 256] = [
     0x82c34141, 0x29b09999, 0x5a772d2d, 0x1e110f0f, 0x7bcbb0b0, 0xa8fc5454, 0x6dd6bbbb, 0x2c3a1616,
 ];
 
-/// The four tables one behind the other, `ROWS[r]` for a byte in row r, so that one address serves a whole round.
+/// The four tables one after the other, `ROWS[r]` for a byte in row r, so that one address serves a whole round.
 pub const ROWS: [[u32; 256]; 4] = [ROW_0, ROW_1, ROW_2, ROW_3];

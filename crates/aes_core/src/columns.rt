@@ -1,5 +1,5 @@
-//! A round on the columns of a state: SubBytes, ShiftRows, MixColumns and AddRoundKey in one step (FIPS 197, 5.1), and
-//! the four inverse steps in one (5.3), by tables.
+//! A round on the columns of a state: SubBytes, ShiftRows, MixColumns and AddRoundKey in one step, by tables (FIPS 197,
+//! 5.1).
 //!
 //! A column is a word, row 0 in the lowest byte.
 
@@ -50,9 +50,9 @@ pub fn state_of(w: Columns) -> Block
     u32x4::from_array(w).to_le_bytes().to_array()
 }
 
-// SubBytes and MixColumns of a column, each row of which stands in another word.
+// SubBytes and MixColumns of a column, each row of which comes from another word.
 //
-// Not `inline(always)`: what grows too large by such functions isn't put into its callers.
+// Not `inline(always)`: a function that grows too large by such calls isn't inlined into its own callers.
 #[inline]
 fn mixed(a: u32, b: u32, c: u32, d: u32) -> u32
     ensures { result ≡ mixed_word (sbox (a % 256)) (sbox (b / 2 ^ 8 % 256)) (sbox (c / 2 ^ 16 % 256)) (sbox (d / 2 ^ 24)) }
@@ -63,7 +63,7 @@ fn mixed(a: u32, b: u32, c: u32, d: u32) -> u32
         ^ ROWS[3][(d >> 24) as usize]
 }
 
-/// SubBytes, ShiftRows, MixColumns, and the sum with round key r.
+/// One round but the last: SubBytes, ShiftRows, MixColumns, and AddRoundKey with round key r.
 #[inline(always)]
 pub fn after_round(w: Columns, keys: &[u8; 240], r: usize) -> Columns
     requires { r < 15 }
@@ -78,7 +78,7 @@ pub fn after_round(w: Columns, keys: &[u8; 240], r: usize) -> Columns
     ]
 }
 
-// SubBytes of a column, each row of which stands in another word. Each table has the S-box itself in two of its rows.
+// SubBytes of a column, each row of which comes from another word. Each table has the S-box itself in two of its rows.
 #[inline]
 fn substituted(a: u32, b: u32, c: u32, d: u32) -> u32
     ensures { result ≡ word_of (sbox (a % 256)) (sbox (b / 2 ^ 8 % 256)) (sbox (c / 2 ^ 16 % 256)) (sbox (d / 2 ^ 24)) }
@@ -89,7 +89,7 @@ fn substituted(a: u32, b: u32, c: u32, d: u32) -> u32
         ^ (ROWS[1][(d >> 24) as usize] & 0xff00_0000)
 }
 
-/// SubBytes, ShiftRows, and the sum with round key r.
+/// The last round: SubBytes, ShiftRows, and AddRoundKey with round key r.
 #[inline(always)]
 pub fn after_last_round(w: Columns, keys: &[u8; 240], r: usize) -> Columns
     requires { r < 15 }

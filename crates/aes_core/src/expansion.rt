@@ -7,10 +7,10 @@ ghost use Rattle.aes_core.specs.Aes.{xor, sub_bytes, word, rotated, key_term, ke
 use crate::sboxes::sbox;
 use crate::steps::times_x;
 
-// Four bytes of the schedule.
+// A word of the key schedule: four bytes.
 type Word = [u8; 4];
 
-// Word i of the schedule.
+// Word i of the key schedule.
 fn word(w: &[u8; 240], i: usize) -> Word
     requires { i < 60 }
     ensures { result ≡ word w.now i }
@@ -25,7 +25,7 @@ fn sub_word(w: Word) -> Word
     [sbox(w[0]), sbox(w[1]), sbox(w[2]), sbox(w[3])]
 }
 
-// RotWord.
+// RotWord: the first byte becomes the last.
 fn rotated(w: Word) -> Word
     ensures { result ≡ rotated w }
 {
@@ -50,7 +50,7 @@ fn round_constant(j: usize) -> u8
     constant
 }
 
-// What is added to the word `nk` places before word i to make word i.
+// What is added to word i - nk to give word i.
 fn key_term(w: &[u8; 240], nk: usize, i: usize) -> Word
     requires low { nk ≤ i }
     requires high { i < 60 }
@@ -67,7 +67,7 @@ fn key_term(w: &[u8; 240], nk: usize, i: usize) -> Word
     }
 }
 
-// The round keys of a key of `nk` words, and zeros after them.
+// The round keys of a key of `nk` words, with zeros after them.
 pub fn expand(key: &[u8], nk: usize) -> [u8; 240]
     requires long { length key.now ≡ 4 * nk }
     requires low { 4 ≤ nk }

@@ -1,8 +1,8 @@
 //! AES (FIPS 197) of one block of 16 bytes, under keys of 16, 24 and 32 bytes.
 //!
-//! `specs/Field.antt` and `specs/Aes.antt` define the cipher by equations of its field, with no
-//! table. [`steps`] has these equations as code, byte by byte. A `Schedule` takes a round by its
-//! four columns, from tables of the S-boxes and of the products of MixColumns and its inverse.
+//! `specs/Field.antt` and `specs/Aes.antt` define the cipher by equations of its field, with no table. [`steps`] has
+//! these equations as code, byte by byte. A `Schedule` enciphers a round by the four columns of the state, from tables
+//! of SubBytes and MixColumns in one; it deciphers by [`steps`].
 #![tactic(auto)]
 
 ghost use Rattle.std.specs.Prelude.{◌≡◌, ◌≤◌, ℕ, ◌↔◌, List, length, IsSome, IfSome};
@@ -51,7 +51,7 @@ impl Model for Schedule {
 impl Schedule {
     ghost use Rattle.aes_core.specs.Schedule.{IsKey, padded_schedule};
 
-    /// The schedule of a key, or None where the key doesn't have 16, 24 or 32 bytes.
+    /// The key schedule of a key, or `None` if the key doesn't have 16, 24 or 32 bytes.
     pub fn new(key: &[u8]) -> Option<Schedule>
         ensures given { IsSome result ↔ IsKeyLength (length key.now) }
         ensures key { IfSome result (λ s. s ≡ key.now) }
@@ -82,7 +82,7 @@ impl Schedule {
         *block = steps::decipher(&self.keys, self.words + 5, *block);
     }
 
-    /// The number of rounds (FIPS 197, 5).
+    /// The number of rounds: 10, 12 or 14 (FIPS 197, 5).
     pub fn rounds(&self) -> usize
         ensures value { result ≡ rounds self.now }
         ensures few { (10 ≤ result) × (result ≤ 14) }
@@ -90,7 +90,7 @@ impl Schedule {
         self.words + 6
     }
 
-    /// The round keys one after the other, with zeros behind them (FIPS 197, 5.2).
+    /// The round keys of 16 bytes one after the other, with zeros after them (FIPS 197, 5.2).
     pub fn round_keys(&self) -> &[u8; 240]
         ensures { result.now ≡ padded_schedule self.now }
     {

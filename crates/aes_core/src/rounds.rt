@@ -9,7 +9,7 @@ use crate::blocks::Block;
 use crate::columns::{Columns, after_last_round, after_round, columns_of, state_of};
 use crate::steps::add_round_key;
 
-// Two rounds on the columns behind round r.
+// Two rounds on the columns after round r.
 #[inline(always)]
 fn two_rounds(w: Columns, keys: &[u8; 240], r: usize) -> Columns
     requires { r < 12 }
@@ -18,7 +18,7 @@ fn two_rounds(w: Columns, keys: &[u8; 240], r: usize) -> Columns
     after_round(after_round(w, keys, r + 1), keys, r + 2)
 }
 
-// Four rounds on the columns behind round r.
+// Four rounds on the columns after round r.
 #[inline(always)]
 fn four_rounds(w: Columns, keys: &[u8; 240], r: usize) -> Columns
     requires { r < 10 }
@@ -27,7 +27,8 @@ fn four_rounds(w: Columns, keys: &[u8; 240], r: usize) -> Columns
     two_rounds(two_rounds(w, keys, r), keys, r + 2)
 }
 
-// The first 8, 10 or 12 rounds, one less than `count`. They stand one behind the other, which is quicker than a loop.
+// The first 8, 10 or 12 rounds, one less than `count`. They are written out one after the other, which is quicker than
+// a loop.
 #[inline(always)]
 fn even_rounds(start: Columns, keys: &[u8; 240], count: usize) -> Columns
     requires few { count < 14 }

@@ -1,8 +1,8 @@
 //! AES by the equations of its field and of its steps (FIPS 197, 4 and 5), byte by byte and with no table.
 //!
-//! It is the plain program of the definitions, and slow: a byte of SubBytes costs 254 products. `Schedule` enciphers by
-//! tables, which are proved from the same equations. A state is a block: row r of column c is byte r + 4 * c (FIPS 197,
-//! 3.4).
+//! This is the plain program of the definitions, and slow: a byte of SubBytes costs 254 products. `Schedule` enciphers
+//! by tables, which are proved from the same equations. A state is a block: row r of column c is byte r + 4 * c (FIPS
+//! 197, 3.4).
 
 ghost use Rattle.std.specs.Prelude.{◌≡◌, ◌<◌, ℕ, bit_xor, List};
 ghost use Rattle.aes_core.specs.Field.{times_x, times, inverse};
@@ -56,7 +56,7 @@ fn affine(b: u8) -> u8
     b ^ b.rotate_left(1) ^ b.rotate_left(2) ^ b.rotate_left(3) ^ b.rotate_left(4) ^ 0x63
 }
 
-// The map that undoes it (FIPS 197, 5.3.2).
+// The inverse of the affine map (FIPS 197, 5.3.2).
 fn inverse_affine(b: u8) -> u8
     ensures { result ≡ inverse_affine b }
 {

@@ -232,7 +232,7 @@ mix_rows_law q r j lj h e =
 
 -- ---- the rounds
 
--- after the S-box of round n + 1
+-- s is the state after the S-box of round n + 1
 abbrev pub IsAt : List ℕ → Planes → Planes → ℕ → Type 0
 IsAt w q s n = AreStates s × ((j : ℕ) → j < 8 → block_at (planes_of s) j ≡ half_sub (shift_in (after_rounds w (vector_at q j) n)))
 

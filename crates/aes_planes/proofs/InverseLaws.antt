@@ -136,7 +136,7 @@ unmixed_byte a b c d la lb lc ld =
     ∙ sum4-xor (times 2 a) (times 3 b) (times 1 c) (times 1 d) (bit_xor q0 r2) (bit_xor q1 r3) (bit_xor q2 r0) (bit_xor q3 r1)
     ∙ (λ i. sum4 (own i) (next i) (opposite i) (before i))
 
--- a state and four times the sum of it and what stands opposite, by columns and by rows
+-- a state and four times the sum of it and of the bytes two rows on, by columns and by rows
 abbrev pre : List ℕ → List ℕ
 pre y = xor y (map (times 4) (xor y (opposite_lane y)))
 
@@ -243,7 +243,7 @@ unshift_in_states q r h e = moved_states unshift_in q r (λ v hv. IsState-rows (
 unshift_between_states : (q r : Planes) → AreStates q → planes_of r ≡ map unshift_between (planes_of q) → AreStates r
 unshift_between_states q r h e = moved_states unshift_between q r (λ v hv. IsState-rows (inverse_shift_rows (rows v)) (IsState-lanes_by (λ k. (k + 12 * (k % 4)) % 16) (rows v) (IsState-rows v hv))) h e
 
--- before the inverse S-box of inverse round n + 1
+-- s is the state before the inverse S-box of inverse round n + 1
 abbrev pub IsInverseAt : List ℕ → ℕ → Planes → Planes → ℕ → Type 0
 IsInverseAt w m q s n = AreStates s × ((j : ℕ) → j < 8 → block_at (planes_of s) j ≡ unshift_in (turned (after_inverse_rounds w m (vector_at q j) n)))
 

@@ -90,7 +90,7 @@ round_by_half t k lt lk =
     (λ i. xor ((ap mix_columns (half_turned (shift_rows t)) ∙ turned_mix (sub_bytes (shift_rows t)) long ∙ ap (λ (s : List ℕ). turned (mix_columns s)) (sub_shift t lt)) i) (turned k))
     ∙ turned_xor (mix_columns (shift_rows (sub_bytes t))) k (IsState-mix_columns (shift_rows (sub_bytes t))).long lk
 
--- the last one
+-- the last round with the constant in the key
 pub last_by_half : (t k : List ℕ) → length t ≡ 16 → length k ≡ 16 → xor (half_sub (shift_rows t)) (turned k) ≡ xor (shift_rows (sub_bytes t)) k
 last_by_half t k lt lk =
     (λ i. xor ((half_turned (shift_rows t) ∙ ap turned (sub_shift t lt)) i) (turned k))

@@ -12,7 +12,7 @@ use Rattle.aes_planes.specs.Planes.{half}
 use Rattle.aes_planes.specs.Blocks.{from_bits}
 use Rattle.aes_planes.proofs.Hom.{IsHom, run-hom, outputs-hom}
 
--- on bits, and on numbers bit by bit
+-- the operations of gates on bits, and on numbers bit by bit
 abbrev pub bit_ops : Ops ℕ
 bit_ops = record { xor = bit_xor; and = bit_and; or = bit_or; none = 0 }
 
@@ -110,7 +110,7 @@ sbox_on_every_byte =
 sbox_runs : outputs bit_ops sbox_outputs (run bit_ops sbox_gates every_byte) ≡ sbox_on_every_byte
 sbox_runs = refl
 
--- against the table, which the field equations gave entry by entry
+-- the circuit agrees with the table of the S-box, which is proved entry by entry from the field equations
 sbox_bits : map (λ x. map (λ w. bit w x) sbox_on_every_byte) (range_with_len 0 256) ≡ map (λ b. bits_of (bit_xor b 0x63)) sbox_table
 sbox_bits = refl
 
@@ -121,7 +121,7 @@ sbox_circuit x lt =
     ∙ ap (λ (l : List (List ℕ)). get_or l x []) sbox_bits ∙ get_or-map (λ b. bits_of (bit_xor b 0x63)) sbox_table x 0 [] lt
     ∙ ap (λ (b : ℕ). bits_of (bit_xor b 0x63)) (sbox_entry x lt)
 
--- ---- its inverse
+-- ---- the inverse S-box
 
 abbrev inverse_on_every_byte : List ℕ
 inverse_on_every_byte =

@@ -57,7 +57,7 @@ long-zip2 f a b la lb = length-zip2 f a b (la ∙ sym lb) ∙ la
 pub long-block : (v : List ℕ) → Long v → (i : ℕ) → i < 2 → length (block v i) ≡ 16
 long-block v l i li = length-chunk (16 * i) 16 v (omega (arith, l))
 
--- bit 7 first
+-- the wide vectors as a list, that of bit 7 first
 abbrev pub wide_of : WidePlanes → List (List ℕ)
 wide_of q = q.b7 ∷ q.b6 ∷ q.b5 ∷ q.b4 ∷ q.b3 ∷ q.b2 ∷ q.b1 ∷ q.b0 ∷ []
 
@@ -114,7 +114,7 @@ gates_wide gates places q r h e =
 
 -- ---- shifts, masks and sums
 
--- on vectors of 32 bytes
+-- the operations of the network on vectors of 32 bytes
 abbrev pub on_wide : Linear (List ℕ)
 on_wide = record {
   add = zip2 bit_xor;

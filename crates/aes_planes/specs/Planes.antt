@@ -9,7 +9,7 @@ use Rattle.aes_planes.specs.declared.vectors.Planes.{Planes}
 abbrev pub vector_ops : Ops (List ℕ)
 vector_ops = record { xor = zip2 bit_xor; and = zip2 bit_and; or = zip2 bit_or; none = replicate 16 0 }
 
--- bit 7 first
+-- the vectors as a list, that of bit 7 first
 abbrev pub planes_of : Planes → List (List ℕ)
 planes_of p = p.b7 ∷ p.b6 ∷ p.b5 ∷ p.b4 ∷ p.b3 ∷ p.b2 ∷ p.b1 ∷ p.b0 ∷ []
 
@@ -19,7 +19,7 @@ lanes_by f v = map (λ k. slice_index v (f k)) (range_with_len 0 16)
 
 -- ---- a state by its columns, as FIPS 197 has it
 
--- each byte's place holds the next byte of its column, and the one opposite
+-- in the place of each byte, the next byte of its column, and the one two rows on
 abbrev pub next_lane : List ℕ → List ℕ
 next_lane v = lanes_by (λ k. k / 4 * 4 + (k + 1) % 4) v
 
@@ -65,7 +65,7 @@ unshift_in v = rows (inverse_shift_rows v)
 abbrev pub unshift_between : List ℕ → List ℕ
 unshift_between v = rows (inverse_shift_rows (rows v))
 
--- the byte in the next row, and in the one opposite
+-- in the place of each byte, the one in the next row, and the one two rows on
 abbrev pub next_row : List ℕ → List ℕ
 next_row v = lanes_by (λ k. (k + 4) % 16) v
 

@@ -83,7 +83,7 @@ pub fn mix_columns(q: Planes) -> Planes
     mixed!(Planes, sums(q))
 }
 
-// The bytes in the rows opposite.
+// In the place of each byte, the one two rows on in its column.
 #[inline(always)]
 fn opposites(q: Planes) -> Planes
     requires { AreLong q }
@@ -156,7 +156,8 @@ fn wide_opposite(v: u8x32) -> u8x32
     v.swizzle(WIDE_OPPOSITE)
 }
 
-// The same of both sides of a plane.
+// What MixColumns makes of both sides of a plane: the sum of each byte and the next of its column, and that of the
+// other three.
 #[derive(Clone, Copy)]
 struct WideRowSums {
     with_next: u8x32,
@@ -186,7 +187,7 @@ pub fn wide_mix_columns(q: WidePlanes) -> WidePlanes
     mixed!(WidePlanes, wide_sums(q))
 }
 
-// The bytes of sixteen blocks in the rows opposite.
+// In the place of each byte of sixteen blocks, the one two rows on in its column.
 #[inline(always)]
 fn wide_opposites(q: WidePlanes) -> WidePlanes
     requires { AreWide q }

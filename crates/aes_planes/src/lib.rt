@@ -1,8 +1,9 @@
-//! AES (FIPS 197) of eight blocks at a time, by the planes of their bits.
+//! Bit-sliced AES (FIPS 197): eight blocks at a time in bit planes of 16 bytes, or sixteen in bit planes of 32.
 //!
-//! Plane `i` holds bit `i` of all 128 bytes of the eight blocks: bit `j` of its lane `p` is that of byte `p` of block
-//! `j`. The S-box is then a circuit of gates on whole planes, with no table, and the same gates run whatever the bytes
-//! are. `aes_core` has the definitions, and `SlicedSchedule` says that the eight blocks are enciphered by them.
+//! Bit plane `i` holds bit `i` of all 128 bytes of eight blocks: bit `j` of its lane `p` is that of byte `p` of block
+//! `j`. A wide plane is two such planes side by side. The S-box is a circuit of gates on whole planes, with no table,
+//! and the same gates run whatever the bytes are. `aes_core` has the definitions; the contracts of `SlicedSchedule` say
+//! that each block is enciphered and deciphered by them.
 #![tactic(auto)]
 
 ghost use Rattle.std.specs.Prelude.{◌≡◌, ◌<◌, ℕ};
@@ -27,8 +28,7 @@ use vectors::sides_are_states;
 pub use vectors::{Planes, WidePlanes, summed, wide_summed};
 pub use width::WIDE;
 
-/// A key schedule with the bit planes of its round keys, which are made once. It is 2 KB large, and no copy of it is
-/// made by itself.
+/// A key schedule with the bit planes of its round keys, which are made once. It takes 2 KB, so it isn't `Copy`.
 ///
 /// Contracts see the bytes of the key.
 #[derive(Clone, Drop)]
@@ -55,7 +55,7 @@ impl SlicedSchedule {
     ghost use Rattle.aes_planes.specs.Blocks.{AreStates, vector_at};
     ghost use Rattle.aes_planes.specs.Wide.{AreWide, side};
 
-    /// The planes of this schedule's round keys.
+    /// Makes the bit planes of this schedule's round keys.
     pub fn new(schedule: &Schedule) -> SlicedSchedule
         ensures { result ≡ schedule.now }
     {
@@ -65,7 +65,7 @@ impl SlicedSchedule {
         }
     }
 
-    /// The schedule that it was made of, for single blocks.
+    /// The schedule that this one was made from, for single blocks.
     pub fn schedule(&self) -> &Schedule
         ensures { result.now ≡ self.now }
     {
@@ -102,7 +102,7 @@ impl SlicedSchedule {
         )
     }
 
-    /// Sixteen blocks enciphered, two in each vector.
+    /// Sixteen blocks enciphered, two in each vector (FIPS 197, 5.1).
     #[inline(always)]
     pub fn wide_encrypted(&self, q: WidePlanes) -> WidePlanes
         requires { AreWide q }
@@ -115,7 +115,7 @@ impl SlicedSchedule {
         wide_encipher(self.schedule.round_keys(), &self.planes, between, q)
     }
 
-    /// Sixteen blocks deciphered, two in each vector.
+    /// Sixteen blocks deciphered, two in each vector (FIPS 197, 5.3).
     #[inline(always)]
     pub fn wide_decrypted(&self, q: WidePlanes) -> WidePlanes
         requires { AreWide q }

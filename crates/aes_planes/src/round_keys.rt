@@ -37,7 +37,7 @@ fn plane(k: u128) -> u8x16
     u64x2::from_array([(k & 0xffff_ffff_ffff_ffff) as u64, (k >> 64) as u64]).to_le_bytes()
 }
 
-/// AddRoundKey.
+/// AddRoundKey of eight blocks.
 #[inline(always)]
 pub fn add_round_key(q: Planes, k: &KeyPlanes) -> Planes
     ensures { planes_of result ≡ added q (key_at k.now) }
@@ -45,7 +45,7 @@ pub fn add_round_key(q: Planes, k: &KeyPlanes) -> Planes
     planes!(Planes, q ^ plane(k))
 }
 
-// Each lane of a vector of 16 twice.
+// The 16 lanes of a vector, twice over.
 const TWICE: [usize; 32] = [
     0, 1, 2, 3, 4, 5, 6, 7, 8, 9, 10, 11, 12, 13, 14, 15, 0, 1, 2, 3, 4, 5, 6, 7, 8, 9, 10, 11, 12,
     13, 14, 15,
@@ -80,7 +80,7 @@ fn number(v: u8x16) -> u128
     u128::from(high) * 0x1_0000_0000_0000_0000 + u128::from(low)
 }
 
-// The planes of eight blocks that are all this one.
+// The bit planes of eight blocks, all of which are this one.
 fn key_planes(v: u8x16) -> KeyPlanes
     requires { IsState v }
     ensures { AreOf v (key_at result) }
@@ -99,7 +99,7 @@ fn with_constant(v: u8x16) -> u8x16
     v ^ u8x16::splat(0x63)
 }
 
-/// The planes of the first round key.
+/// The bit planes of the first round key.
 fn first_key(k: [u8; 16]) -> KeyPlanes
     requires { IsState k }
     ensures { AreOf k (key_at result) }
@@ -107,7 +107,7 @@ fn first_key(k: [u8; 16]) -> KeyPlanes
     key_planes(u8x16::from_array(k))
 }
 
-/// The planes of a round key between.
+/// The bit planes of a round key between the first and the last, by rows, with the constant of the S-box.
 fn middle_key(k: [u8; 16]) -> KeyPlanes
     requires { IsState k }
     ensures { AreOf (rows (turned k)) (key_at result) }
@@ -115,7 +115,7 @@ fn middle_key(k: [u8; 16]) -> KeyPlanes
     key_planes(in_rows(with_constant(u8x16::from_array(k))))
 }
 
-/// The planes of the last round key.
+/// The bit planes of the last round key, with the constant of the S-box.
 fn last_key(k: [u8; 16]) -> KeyPlanes
     requires { IsState k }
     ensures { AreOf (turned k) (key_at result) }
@@ -134,7 +134,7 @@ fn round_key_of(round_keys: &[u8; 240], r: usize) -> [u8; 16]
     out
 }
 
-/// The planes of all round keys of a schedule, with `count` rounds before the last.
+/// The bit planes of all round keys of a key schedule, with `count` rounds before the last.
 pub fn schedule_planes(round_keys: &[u8; 240], count: usize) -> [KeyPlanes; 15]
     requires { count < 14 }
     ensures { AreKeys round_keys.now count result }

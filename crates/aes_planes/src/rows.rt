@@ -152,7 +152,7 @@ pub fn middle_unshift(q: Planes) -> Planes
     planes!(Planes, unmoved_between(q))
 }
 
-// From rows to columns.
+// The bytes of a state, from rows to columns.
 #[inline(always)]
 pub fn by_columns(q: Planes) -> Planes
     requires { AreLong q }
@@ -271,7 +271,7 @@ pub fn wide_middle_unshift(q: WidePlanes) -> WidePlanes
     planes!(WidePlanes, wide_unmoved_between(q))
 }
 
-// Sixteen blocks from rows to columns.
+// The bytes of sixteen blocks, from rows to columns.
 #[inline(always)]
 pub fn wide_by_columns(q: WidePlanes) -> WidePlanes
     requires { AreWide q }

@@ -1,4 +1,5 @@
-//! SubBytes and InvSubBytes (FIPS 197, 5.1.1 and 5.3.2) on the bit planes of eight blocks, as circuits of gates.
+//! SubBytes and InvSubBytes (FIPS 197, 5.1.1 and 5.3.2) on the bit planes of eight or sixteen blocks, as circuits of
+//! gates.
 //!
 //! The constant that the S-box adds is left out: the round keys carry it (`round_keys`).
 
@@ -306,7 +307,7 @@ macro_rules! inverse_sbox_circuit {
     }};
 }
 
-/// SubBytes without the constant.
+/// SubBytes of eight blocks, without the constant of the S-box.
 #[inline(always)]
 pub fn sub_bytes(q: Planes) -> Planes
     ensures { planes_of result ≡ outputs vector_ops sbox_outputs (run vector_ops sbox_gates (planes_of q)) }
@@ -314,7 +315,7 @@ pub fn sub_bytes(q: Planes) -> Planes
     sbox_circuit!(Planes, q)
 }
 
-/// The same on planes of sixteen blocks.
+/// SubBytes of sixteen blocks, without the constant of the S-box.
 #[inline(always)]
 pub fn wide_sub_bytes(q: WidePlanes) -> WidePlanes
     requires { AreWide q }
@@ -324,7 +325,7 @@ pub fn wide_sub_bytes(q: WidePlanes) -> WidePlanes
     sbox_circuit!(WidePlanes, q)
 }
 
-/// InvSubBytes of bytes with the constant added.
+/// InvSubBytes of eight blocks whose bytes have the constant of the S-box added.
 #[inline(always)]
 pub fn inverse_sub_bytes(q: Planes) -> Planes
     ensures { planes_of result ≡ outputs vector_ops inverse_sbox_outputs (run vector_ops inverse_sbox_gates (planes_of q)) }
@@ -332,7 +333,7 @@ pub fn inverse_sub_bytes(q: Planes) -> Planes
     inverse_sbox_circuit!(Planes, q)
 }
 
-/// The same on planes of sixteen blocks.
+/// InvSubBytes of sixteen blocks whose bytes have the constant of the S-box added.
 #[inline(always)]
 pub fn wide_inverse_sub_bytes(q: WidePlanes) -> WidePlanes
     requires { AreWide q }

@@ -70,7 +70,8 @@ macro_rules! network {
     }};
 }
 
-/// Row i of the eight rows of bits in each lane becomes column i.
+/// Row i of the eight rows of bits in each lane becomes column i: eight blocks become their bit planes, or planes their
+/// blocks.
 #[inline(always)]
 pub fn transposed(q: Planes) -> Planes
     ensures { planes_of result ≡ places_of on_vectors transposed_places (operations_of on_vectors transposing (planes_of q)) }
@@ -78,7 +79,8 @@ pub fn transposed(q: Planes) -> Planes
     network!(Planes, u8x16, q)
 }
 
-/// The same on the planes of sixteen blocks, or on sixteen blocks.
+/// Row i of the eight rows of bits in each of 32 lanes becomes column i: sixteen blocks become their bit planes, or
+/// planes their blocks.
 #[inline(always)]
 pub fn wide_transposed(q: WidePlanes) -> WidePlanes
     requires { AreWide q }

@@ -1,4 +1,4 @@
-//! Eight vectors of 16 bytes, eight blocks or the planes of their bits; and eight of 32 bytes, for sixteen blocks.
+//! Eight vectors of 16 bytes, for eight blocks or their bit planes; and eight of 32 bytes, for sixteen blocks.
 
 ghost use Rattle.std.specs.Prelude.{◌≡◌, ◌<◌, ℕ, length};
 ghost use Rattle.aes_core.specs.Blocks.{block};
@@ -9,7 +9,8 @@ ghost use Rattle.aes_planes.specs.Wide.{AreWide, side};
 
 use std::simd::prelude::*;
 
-// The same for each of eight planes: a call on it, its sum with that of `k` or with a call on that, or one value.
+// Eight planes that are made alike: each by a call on a plane, as the sum of two planes (the second as it is or after a
+// call), or as one value.
 macro_rules! planes {
     ($planes:ident, $of:ident($q:ident)) => {
         $planes {
@@ -51,7 +52,8 @@ macro_rules! planes {
 
 pub(crate) use planes;
 
-/// The vector of bit 7 of each byte first.
+/// Eight blocks, one in each vector, from block 0 in `b0` to block 7 in `b7`. Or their bit planes, from bit 0 of each
+/// byte in `b0` to bit 7 in `b7`.
 #[derive(Clone, Copy)]
 pub struct Planes {
     pub b7: u8x16,
@@ -64,7 +66,7 @@ pub struct Planes {
     pub b0: u8x16,
 }
 
-// The sum of two states.
+// The sum of two states of eight blocks.
 #[inline(always)]
 pub fn summed(q: Planes, k: Planes) -> Planes
     ensures { planes_of result ≡ added q k }
@@ -72,8 +74,8 @@ pub fn summed(q: Planes, k: Planes) -> Planes
     planes!(Planes, q ^ (k))
 }
 
-/// Sixteen blocks, two in each vector: blocks 0 and 1 in `b0`, and 14 and 15 in `b7`. Or the planes of their bits, each
-/// with the plane of the blocks of even number before that of the others.
+/// Sixteen blocks, two in each vector: blocks 0 and 1 in `b0`, and 14 and 15 in `b7`. Or their bit planes, each of
+/// which has the plane of the blocks of even number before that of the others.
 #[derive(Clone, Copy)]
 pub struct WidePlanes {
     pub b7: u8x32,
@@ -97,14 +99,14 @@ pub fn wide_summed(q: WidePlanes, k: WidePlanes) -> WidePlanes
     planes!(WidePlanes, q ^ (k))
 }
 
-// A law: either half of a vector has bytes.
+// A law: each half of a vector is a state of 16 bytes.
 #[inline(always)]
 fn halves_are_states(v: u8x32)
     requires { length v ≡ 32 }
     ensures { (i : ℕ) → i < 2 → IsState (block v i) }
 {}
 
-/// A law: either side of eight vectors has bytes.
+/// A law: each side of eight vectors is eight states of 16 bytes.
 #[inline(always)]
 pub fn sides_are_states(q: WidePlanes)
     requires { AreWide q }

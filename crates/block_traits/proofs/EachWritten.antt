@@ -5,7 +5,7 @@ use Rattle.block_traits.specs.Parts.{part, parts}
 use Rattle.block_traits.specs.declared.disk.DiskFailed.{DiskFailed}
 use Rattle.block_traits.specs.EachWritten.{EachWritten}
 
--- the sectors that are left behind the first j of them
+-- the sectors that are left after the first j of them
 pub sectors_left : List ℕ → ℕ → List (List ℕ)
 sectors_left bytes j = parts 512 (length bytes / 512 - j) (drop (512 * j) bytes)
 

@@ -32,7 +32,7 @@ AllHold-one P value one = record { all = All-cons P value [] one (All-nil P); la
 AllHold-some : (P : List ℕ → Type 0) (values : List (List ℕ)) → 0 < length values → All P values → AllHold P values
 AllHold-some P values some all = record { all = all; last = All-last_of P values some all }
 
--- after a write that may be to this sector
+-- P holds still after a write that may be to this sector, if it holds of what is written there
 AllHold-written : (here : Bool) (P : List ℕ → Type 0) (values : List (List ℕ)) (value : List ℕ) → AllHold P values → (here ≡ true → P value) → AllHold P (cond here (values ++ value ∷ []) values)
 AllHold-written true P values value many one = record {
   all = All-push P values value many.all (one refl);

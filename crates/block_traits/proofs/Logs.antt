@@ -71,6 +71,6 @@ Continues-then events left all continues one = record {
 pub FailsIn-part : (events left all : List Event) {middle start new : DiskState} → Continues (events ++ left) all middle start → FailsIn events middle new → FailsIn all start new
 FailsIn-part events left all {middle} {start} {new} continues fails = continues.part new (FailsIn-more events left fails)
 
--- where nothing is logged the content stays
+-- if nothing is logged the content stays
 pub content-Logs : (old new : DiskState) → Logs [] old new → new.content ≡ old.content
 content-Logs old new logs = logs.content ∙ logged-none old.content

@@ -13,7 +13,7 @@ use Rattle.block_traits.proofs.Contents.{last_of-push}
 use Rattle.block_traits.proofs.Logs.{Continues-then, FailsIn-part}
 use Rattle.block_traits.proofs.Keeping.{AtEachMoment-FailsIn, AtEachMoment-Logs, HoldsOldOr-more, WritesHere, AllHold, AllHold-one, AllHold-kept_after, flushed-more, kept_values-more}
 
--- where P holds of the values, or they are written elsewhere
+-- what the events write to sector n, P holds of, if it holds of the values or they are written elsewhere
 pub WritesHere-overwrite : (P : List ℕ → Type 0) (n place : ℕ) (values : List (List ℕ)) → (place ≡ n → All P values) → All (WritesHere P n) (overwrite_events place values)
 WritesHere-overwrite P n place [] all = All-nil (WritesHere P n)
 WritesHere-overwrite P n place (value ∷ values) all =
@@ -32,7 +32,7 @@ last_of-write n value olds =
     let here : (n == n) ≡ true = eq-eqb n n refl in
     ap (λ (b : Bool). last_of (cond b (olds ++ value ∷ []) olds)) here ∙ last_of-push olds value
 
--- once a flush landed, P holds of what the sector may hold where it holds of the values
+-- once a flush landed, P holds of what the sector may hold if it holds of the values
 AllHold-overwrite : (P : List ℕ → Type 0) (n : ℕ) (values : List (List ℕ)) (k : ℕ) (olds : List (List ℕ)) → All P values → Contains (take k (overwrite_events n values)) Flush
     → AllHold P (kept_after (take k (overwrite_events n values)) n olds)
 AllHold-overwrite P n [] zero olds all flushed = absurd (All-contains IsWrite [] Flush (All-nil IsWrite) flushed)
@@ -65,7 +65,7 @@ pub flushed-overwrite_part : (P : List ℕ → Type 0) (n : ℕ) (values : List 
 flushed-overwrite_part P n values disk disk' all fails =
     AtEachMoment-FailsIn (HoldsOnceFlushed P n) (overwrite_events n values) disk disk' (λ c k told. HoldsOnceFlushed-overwrite P n values all c k) fails
 
--- and each value is one from before or one of which P holds
+-- at each moment each value is one from before or one of which P holds
 pub KeepsOldOr-overwrite : (P : List ℕ → Type 0) (n : ℕ) (values : List (List ℕ)) (disk disk' : DiskState) → All P values → Logs (overwrite_events n values) disk disk'
     → KeepsOldOr P n disk.content disk'.content
 KeepsOldOr-overwrite P n values disk disk' all logs =

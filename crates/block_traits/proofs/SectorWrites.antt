@@ -6,7 +6,7 @@ use Rattle.block_traits.specs.declared.disk.Event.TheVariants.{Write}
 use Rattle.block_traits.specs.Disk.{write_events, writes_from}
 use Rattle.block_traits.specs.Parts.{part, parts}
 
--- the writes that are left behind the first j of them
+-- the writes that are left after the first j of them
 pub writes_left : ℕ → List ℕ → ℕ → List Event
 writes_left first bytes j = writes_from (first + j) (parts 512 (length bytes / 512 - j) (drop (512 * j) bytes))
 

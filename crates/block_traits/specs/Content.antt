@@ -9,7 +9,7 @@ pub record Content : Type 0 where
   pub base : List (List ℕ)
   pub history : List Event
 
--- what stands in sector n after these events, where these bytes stood there before
+-- what stands in sector n after these events, if these bytes stood there before
 abbrev pub present_after : List Event → ℕ → List ℕ → List ℕ
 present_after [] n bytes = bytes
 present_after (Write m new ∷ events) n bytes = present_after events n (if m == n then new else bytes)
@@ -25,8 +25,8 @@ last_of [] = []
 last_of (value ∷ []) = value
 last_of (value ∷ next ∷ values) = last_of (next ∷ values)
 
--- the values that sector n may hold if power fails after these events, where it may have held these before:
--- a write adds one, and a flush keeps the last alone
+-- the values that sector n may hold if power fails after these events, given those that it might hold before: a write
+-- adds one, and a flush keeps the last alone
 abbrev pub kept_after : List Event → ℕ → List (List ℕ) → List (List ℕ)
 kept_after [] n values = values
 kept_after (Write m new ∷ events) n values = kept_after events n (if m == n then values ++ new ∷ [] else values)
@@ -44,7 +44,7 @@ at_moment moment c = record { base = c.base; history = take moment c.history }
 abbrev pub with_events : List Event → Content → Content
 with_events events c = record { base = c.base; history = c.history ++ events }
 
--- a content, where it is told, with more events
+-- a content with more events, if it is told
 abbrev pub logged : List Event → Option Content → Option Content
 logged events told = option_map (with_events events) told
 

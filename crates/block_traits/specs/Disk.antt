@@ -11,14 +11,14 @@ abbrev pub FitsSize : ℕ → Option Content → Type 0
 FitsSize size None = Unit {0}
 FitsSize size (Some c) = IsContentOf size c
 
--- the size is small, the content fits it, and events are shown only where the content is told
+-- the size is small, the content fits it, and events are shown only if the content is told
 pub record IsWellFormed (size : ℕ) (shows : Bool) (told : Option Content) : Type 0 where
   pub bound : size < 2 ^ 44
   pub fits : FitsSize size told
   pub shown : IsTrue shows → IsSome told
 
--- what a disk tells of itself: its size in sectors, whether it shows its events, its content where it tells that,
--- how often it has failed, and how often it was asked to read or a look has served a read
+-- what a disk tells of itself: its size in sectors, whether it shows its events, its content if it tells that, how
+-- often it has failed, and how often it was asked to read or a look has served a read
 pub record DiskState : Type 0 where
   pub size : ℕ
   pub shows : Bool
@@ -64,7 +64,7 @@ pub record FailsIn (events : List Event) (old new : DiskState) : Type 0 where
   pub logs : Logs (take count events) old new
   pub rose : Rose old.faults new.faults
 
--- the bytes are what stands in sector n, where that is told
+-- the bytes are what stands in sector n, if that is told
 abbrev pub GivesFrom : Option Content → ℕ → List ℕ → Type 0
 GivesFrom None n bytes = Unit {0}
 GivesFrom (Some c) n bytes = bytes ≡ present c n
@@ -72,7 +72,7 @@ GivesFrom (Some c) n bytes = bytes ≡ present c n
 abbrev pub Gives : DiskState → ℕ → List ℕ → Type 0
 Gives d n bytes = GivesFrom d.content n bytes
 
--- each 512 of the bytes are what stands in a sector, the first in number n, where that is told
+-- each 512 of the bytes are what stands in a sector, the first in number n, if that is told
 abbrev pub GivesEachFrom : Option Content → ℕ → List ℕ → Type 0
 GivesEachFrom told n bytes = (j : ℕ) → j < length bytes / 512 → GivesFrom told (n + j) (part 512 j bytes)
 
@@ -102,7 +102,7 @@ IsHistory told None = Unit {0}
 IsHistory None (Some events) = ⊥
 IsHistory (Some c) (Some events) = events ≡ c.history
 
--- where these events were logged since the start, to log what is left is to log all
+-- if some of these events were logged since the start, to log those that are left is to log all of them
 pub record Continues (left all : List Event) (middle start : DiskState) : Type 0 where
   pub whole : (new : DiskState) → Logs left middle new → Logs all start new
   pub part : (new : DiskState) → FailsIn left middle new → FailsIn all start new

@@ -2,8 +2,8 @@
 use Rattle.std.specs.Prelude.{◌≡◌, ◌⊎◌, ℕ, ◌+◌, List, [], ◌∷◌, Result, Ok, OnOk}
 use Rattle.block_traits.specs.declared.disk.DiskFailed.{DiskFailed}
 
--- each of these sectors, the first of number n, is written as this says of one, in ascending order, up to the first
--- that fails
+-- these sectors are written in ascending order, the first to number n, up to the first that fails, each as `Writes`
+-- says
 module _ {S : Type 0} (Writes : ℕ → List ℕ → S → S → Result (Unit {0}) DiskFailed → Type 0) where
   abbrev pub EachWritten : ℕ → List (List ℕ) → S → S → Result (Unit {0}) DiskFailed → Type 0
   EachWritten n [] old new result = (result ≡ Ok tt) × (new ≡ old)

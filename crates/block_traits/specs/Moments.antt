@@ -4,8 +4,7 @@ use Rattle.block_traits.specs.declared.disk.Event.TheVariants.{Flush}
 use Rattle.block_traits.specs.Content.{Content, at_moment, kept_values}
 use Rattle.block_traits.specs.Crash.{IsImage, IsTorn}
 
--- at each moment since the first content this holds of that content and of the one at the moment, where contents are
--- told
+-- at each moment since the first content this holds of that content and of the one at the moment, if contents are told
 abbrev pub AtEachMoment : (Content → Content → Type 0) → Option Content → Option Content → Type 0
 AtEachMoment Holds None after = Unit {0}
 AtEachMoment Holds (Some before) None = ⊥
@@ -23,7 +22,8 @@ IsOldOr P old value = Contains old value ⊎ P value
 abbrev pub HoldsOldOr : (List ℕ → Type 0) → ℕ → Content → Content → Type 0
 HoldsOldOr P n before now = All (IsOldOr P (kept_values before n)) (kept_values now n)
 
--- so it is at each moment since the first content
+-- at each moment since the first content, each value that sector n may hold if power fails is one that it might hold
+-- before, or one of which P holds
 abbrev pub KeepsOldOr : (List ℕ → Type 0) → ℕ → Option Content → Option Content → Type 0
 KeepsOldOr P n before after = AtEachMoment (HoldsOldOr P n) before after
 
@@ -31,7 +31,7 @@ KeepsOldOr P n before after = AtEachMoment (HoldsOldOr P n) before after
 abbrev pub HoldsOnceFlushed : (List ℕ → Type 0) → ℕ → Content → Content → Type 0
 HoldsOnceFlushed P n before now = IsFlushedSince before now → All P (kept_values now n)
 
--- sector n holds these bytes, also where power fails now
+-- sector n holds these bytes, even if power fails now
 abbrev pub KeepsAlone : List ℕ → ℕ → Option Content → Type 0
 KeepsAlone bytes n None = Unit {0}
 KeepsAlone bytes n (Some c) = kept_values c n ≡ bytes ∷ []

@@ -12,7 +12,7 @@ overwrite_events n (value ∷ values) = Write n value ∷ Flush ∷ overwrite_ev
 unfoldable pub zeros : ℕ → List ℕ
 zeros n = replicate n 0
 
--- the piece at a place of random bytes that are cut into pieces of n bytes
+-- a piece, by its number, of random bytes that are cut into pieces of n bytes
 abbrev pub piece_of : ℕ → List ℕ → ℕ → List ℕ
 piece_of n random place = take n (drop (n * place) random)
 

@@ -1,4 +1,4 @@
-//! What keeps files by their names.
+//! A cabinet: a store of whole files, each with a name.
 ghost use Rattle.std.specs.Prelude.{◌≡◌, ◌≤◌, OnOk, OnErr, IfOk, IsErrOf, length};
 ghost use Rattle.block_traits.specs.Cabinet.{CabinetState, LoadGives, stored};
 ghost use Rattle.block_traits.specs.Causes.{Counted, Rose};
@@ -28,14 +28,14 @@ pub enum StoreFault {
     NoMemory,
 }
 
-/// What keeps files by their names.
+/// A cabinet: a store of whole files, each with a name.
 pub trait Cabinet {
-    /// Its files, where it tells them, which it then always does; how often it has failed; how often a file was
-    /// absent or too long; and counts of the loads and of the stores that it was asked for. No count falls.
+    /// The cabinet's files, if it tells them, as it does always or never. Then counts, none of which falls: of
+    /// failures, of files that were absent or too long, of loads and of stores.
     ghost state: { Self → CabinetState };
 
-    /// The whole file of this name, if it has at most `limit` bytes. Changes no file. It is counted whatever it
-    /// answers.
+    /// Loads the whole file of this name, if it has at most `limit` bytes. No file changes. The load is counted
+    /// whatever the result.
     fn load(&mut self, alloc: Global, name: &[u8], limit: u64) -> Result<ByteList, LoadFault>
         ensures gives { LoadGives (state self.old).files name.now limit result }
         ensures within { IfOk result (λ bytes. length bytes ≤ limit) }
@@ -48,8 +48,8 @@ pub trait Cabinet {
         ensures asked { Counted 1 (state self.old).loads (state self.new).loads }
         ensures unstored { (state self.new).stores ≡ (state self.old).stores };
 
-    /// Makes or replaces the file of this name, and leaves the others. After a failure a cabinet
-    /// that tells its files has what it had. It loads nothing. It is counted whatever it answers.
+    /// Makes or replaces the file of this name, and leaves the others. After a failure a cabinet that tells its files
+    /// has the files that it had. Nothing is loaded. The store is counted whatever the result.
     fn store(&mut self, alloc: Global, name: &[u8], bytes: &[u8]) -> Result<(), StoreFault>
         ensures ok { OnOk result ((state self.new).files ≡ stored name.now bytes.now (state self.old).files) }
         ensures err { OnErr result ((state self.new).files ≡ (state self.old).files) }

@@ -1,4 +1,4 @@
-//! A disk of 512-byte sectors, by what it had at first and what was done to it since.
+//! A disk of 512-byte sectors, described by what it held at first and what was done to it since.
 ghost use Rattle.std.specs.Prelude.{◌≡◌, ◌+◌, ◌*◌, ◌/◌, ◌%◌, ◌<◌, ◌≤◌, ◌∷◌, [], OnOk, OnErr, is_some, length, option_copied, true};
 ghost use Rattle.block_traits.specs.Causes.{Counted};
 ghost use Rattle.block_traits.specs.Disk.{DiskState, FailsIn, Gives, GivesEach, IsHistory, Logs, write_events};
@@ -12,7 +12,7 @@ pub type Sector = [u8; 512];
 pub enum Event {
     /// Sector `n` was given these bytes.
     Write { n: u64, bytes: Sector },
-    /// What was written before is kept from then on, also where power fails.
+    /// Everything written before is kept from then on, even if power fails.
     Flush,
 }
 
@@ -20,7 +20,7 @@ pub enum Event {
 #[derive(Clone, Copy, Debug, PartialEq, Eq)]
 pub struct DiskFailed;
 
-/// The sector of this number among bytes.
+/// Sector `j` of some bytes: the 512 bytes from `512 * j` on.
 pub fn sector_of(bytes: &[u8], j: usize) -> Sector
     requires { 512 * j + 512 ≤ length bytes.now }
     ensures { result ≡ part 512 j bytes.now }
@@ -32,16 +32,16 @@ pub fn sector_of(bytes: &[u8], j: usize) -> Sector
 
 /// A disk of fewer than 2^44 sectors.
 pub trait Disk: Drop {
-    /// Its size, which never changes; whether it shows its events, which never changes; its content
-    /// where it tells that, which it then always does; a count of faults, which never falls; and a
-    /// count of the reads that it was asked for and of those that looks have served. What it tells is well formed.
+    /// The size, and whether the disk shows its events; neither ever changes. The content, if the disk tells it, as it
+    /// does always or never. A count of faults, which never falls. A count of the reads that the disk was asked for and
+    /// of those that looks have served. What the disk tells is well formed.
     ghost state: { Self → DiskState };
 
     /// The size in sectors.
     fn sectors(&self) -> u64
         ensures { result ≡ (state self.now).size };
 
-    /// Reads sector `n`: what stands there now, where that is told. It is counted whatever it answers.
+    /// Reads sector `n`: what stands there now, if the disk tells its content. The read is counted whatever the result.
     /// After a failure `into` may hold any bytes.
     fn read(&mut self, n: u64, into: &mut Sector) -> Result<(), DiskFailed>
         requires { n < (state self.old).size }
@@ -50,8 +50,8 @@ pub trait Disk: Drop {
         ensures err { OnErr result (FailsIn [] (state self.old) (state self.new)) }
         ensures asked { Counted 1 (state self.old).reads (state self.new).reads };
 
-    /// Looks at what stands in whole sectors now, the first of number `first`, where the disk lets that be done. It is
-    /// no read: it isn't counted, and nothing changes. `false` says nothing, and `into` may then hold any bytes.
+    /// Looks at what stands now in whole sectors, from number `first` on, if the disk allows that. A look is no read:
+    /// it isn't counted, and nothing changes. If `false` is returned, `into` may hold any bytes.
     fn peek(&mut self, first: u64, into: &mut [u8]) -> bool
         requires whole { length into.old % 512 ≡ 0 }
         requires inside { first + length into.old / 512 ≤ (state self.old).size }
@@ -61,20 +61,20 @@ pub trait Disk: Drop {
         false
     }
 
-    /// Counts so many reads, which a look has served. None of them is made.
+    /// Counts `many` reads that a look has served. None of them is made.
     fn count_reads(&mut self, many: u64)
         ensures asked { Counted many (state self.old).reads (state self.new).reads }
         ensures logs { Logs [] (state self.old) (state self.new) };
 
-    /// Writes sector `n`. A failed write was done or wasn't.
+    /// Writes sector `n`. A write that failed may have been done or not.
     fn write(&mut self, n: u64, from: &Sector) -> Result<(), DiskFailed>
         requires { n < (state self.old).size }
         ensures ok { OnOk result (Logs (Event.Write n from.now ∷ []) (state self.old) (state self.new)) }
         ensures err { OnErr result (FailsIn (Event.Write n from.now ∷ []) (state self.old) (state self.new)) }
         ensures unasked { (state self.new).reads ≡ (state self.old).reads };
 
-    /// Writes whole sectors in ascending order, the first to number `first`. Where that failed, some of the first were
-    /// written and no other.
+    /// Writes whole sectors in ascending order, the first to number `first`. After a failure the first few were written
+    /// (none, some or all), and no others.
     fn write_sectors(&mut self, first: u64, from: &[u8]) -> Result<(), DiskFailed>
         requires whole { length from.now % 512 ≡ 0 }
         requires inside { first + length from.now / 512 ≤ (state self.old).size }
@@ -88,13 +88,13 @@ pub trait Disk: Drop {
         Ok(())
     }
 
-    /// Makes what was written before last. A failed flush was done or wasn't.
+    /// Makes everything written before durable. A flush that failed may have been done or not.
     fn flush(&mut self) -> Result<(), DiskFailed>
         ensures ok { OnOk result (Logs (Event.Flush ∷ []) (state self.old) (state self.new)) }
         ensures err { OnErr result (FailsIn (Event.Flush ∷ []) (state self.old) (state self.new)) }
         ensures unasked { (state self.new).reads ≡ (state self.old).reads };
 
-    /// The whole history, the oldest event first, where the disk shows its events.
+    /// The whole history, the oldest event first, if the disk shows its events, and otherwise `None`.
     fn events(&self) -> Option<&[Event]>
         ensures shown { is_some result ≡ (state self.now).shows }
         ensures history { IsHistory (state self.now).content (option_copied result) };

@@ -1,4 +1,4 @@
-//! Want of memory, which is merged with no other fault.
+//! Lack of memory, a fault that is kept apart from all others.
 use std::alloc::{AllocError, AllocFailed};
 
 /// There was no memory.

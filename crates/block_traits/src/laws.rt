@@ -10,7 +10,7 @@ pub fn last_kept_value_is_present()
     ensures { (c : Content) (n : ℕ) → last_of (kept_values c n) ≡ present c n }
 {}
 
-/// After a flush a sector holds what stands in it, also where power fails.
+/// After a flush a sector holds what stands in it, even if power fails.
 pub fn flush_keeps_the_present()
     ensures { (c : Content) (n : ℕ) → kept_values (with_events (Event.Flush ∷ []) c) n ≡ present c n ∷ [] }
 {}
@@ -21,13 +21,13 @@ pub fn kept_values_are_sectors()
         All IsSector (kept_values c n) }
 {}
 
-/// An image of a crash is among the torn ones.
+/// Every image that a crash leaves is among the torn ones.
 pub fn crash_image_is_torn()
     ensures { (size : ℕ) (c : Content) (choice : ℕ → ℕ) (image : List (List ℕ)) → IsContentOf size c →
         IsImage c choice image → IsTorn c image }
 {}
 
-/// A torn image is among the altered ones.
+/// Every torn image is among the altered ones.
 pub fn torn_image_is_altered()
     ensures { (c : Content) (image : List (List ℕ)) → IsTorn c image → IsAltered c image }
 {}

@@ -5,7 +5,7 @@ ghost use Rattle.block_traits.specs.Disk.{DiskState, FailsIn, Gives, Logs, last_
 
 use crate::{Disk, DiskFailed, Event, Sector};
 
-/// A disk of which any sector is read, and only the last one written, where its metadata stands.
+/// A disk of which any sector may be read, and only the last one, which has the metadata, may be written.
 pub trait MetaPlace {
     /// The state of the disk.
     ghost state: { Self → DiskState };
@@ -39,8 +39,8 @@ pub trait MetaPlace {
         self.load_sector(last, into)
     }
 
-    /// Writes the last sector, and then flushes. Where it fails, the first of these two were done,
-    /// or both, or none. It reads nothing.
+    /// Writes the last sector, and then flushes. After a failure the write alone was done, or both, or neither. Nothing
+    /// is read.
     fn store(&mut self, from: &Sector) -> Result<(), DiskFailed>
         requires { 0 < (state self.old).size }
         ensures ok { OnOk result (Logs (store_events (state self.old) from.now) (state self.old) (state self.new)) }
@@ -57,14 +57,14 @@ pub struct LastSector<D: Disk> {
 }
 
 impl<D: Disk> LastSector<D> {
-    /// Takes the disk over. Makes no call of it.
+    /// Takes over the disk. Calls none of its functions.
     pub fn new(disk: D) -> LastSector<D>
         ensures { result.disk ≡ disk }
     {
         LastSector { disk }
     }
 
-    /// The disk as it is now. Makes no call of it.
+    /// Returns the disk as it is now. Calls none of its functions.
     pub fn into_disk(self) -> D
         ensures { result ≡ self.disk }
     {
@@ -73,7 +73,7 @@ impl<D: Disk> LastSector<D> {
     }
 }
 
-/// It has the disk's state, and keeps nothing else.
+/// The place has the disk's state, and keeps nothing else.
 impl<D: Disk> MetaPlace for LastSector<D> {
     ghost state = { λ place. D.state place.disk };
 
@@ -92,8 +92,8 @@ impl<D: Disk> MetaPlace for LastSector<D> {
     }
 }
 
-/// Writes the last sector of a disk, and then flushes. Where it fails, the first of these two were
-/// done, or both, or none. It reads nothing.
+/// Writes the last sector of a disk, and then flushes. After a failure the write alone was done, or both, or neither.
+/// Nothing is read.
 pub fn store_last<D: Disk>(disk: &mut D, from: &Sector) -> Result<(), DiskFailed>
     requires { 0 < (D.state disk.old).size }
     ensures ok { OnOk result (Logs (store_events (D.state disk.old) from.now) (D.state disk.old) (D.state disk.new)) }
@@ -104,8 +104,8 @@ pub fn store_last<D: Disk>(disk: &mut D, from: &Sector) -> Result<(), DiskFailed
     write_through(disk, last, from)
 }
 
-/// Writes sector `n` of a disk, and then flushes. Where it fails, the first of these two were done, or
-/// both, or none. It reads nothing.
+/// Writes sector `n` of a disk, and then flushes. After a failure the write alone was done, or both, or neither.
+/// Nothing is read.
 pub(crate) fn write_through<D: Disk>(disk: &mut D, n: u64, from: &Sector) -> Result<(), DiskFailed>
     requires { n < (D.state disk.old).size }
     ensures ok { OnOk result (Logs (Event.Write n from.now ∷ Event.Flush ∷ []) (D.state disk.old) (D.state disk.new)) }

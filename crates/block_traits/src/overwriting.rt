@@ -6,10 +6,10 @@ ghost use Rattle.block_traits.specs.Overwriting.{overwrite_events, passes_of, pi
 use crate::meta_place::write_through;
 use crate::{Disk, DiskFailed, Event, MetaPlace, Sector};
 
-// The bytes of the largest place.
+// As many zeros as the largest place has bytes.
 const ZEROS: [u8; 512] = [0; 512];
 
-/// What six passes make of the bytes that they put in a place.
+/// A place that six passes overwrite, and the sector that results from the bytes put there.
 pub trait Pass {
     /// How many bytes the place has.
     ghost size: { Self → ℕ };
@@ -28,7 +28,7 @@ pub trait Pass {
         ensures { result ≡ sector self.now bytes.now };
 }
 
-// The piece at a place of random bytes that are cut into pieces of this size.
+// Piece number `place` of random bytes that are cut into pieces of `size` bytes.
 fn piece_at(random: &[u8], size: usize, place: usize) -> &[u8]
     requires { size * place + size ≤ length random.now }
     ensures { result.now ≡ piece_of size random.now place }
@@ -71,7 +71,7 @@ trait SectorOf<T> {
     // The number of the sector.
     ghost number: { Self → T → ℕ };
 
-    // Writes the sector, and then flushes. Where it fails, the first of these two were done, or both, or none.
+    // Writes the sector, and then flushes. After a failure the write alone was done, or both, or neither.
     fn store(&self, device: &mut T, from: &Sector) -> Result<(), DiskFailed>
         requires { number self.now device.old < (state device.old).size }
         ensures ok { OnOk result (Logs (Event.Write (number self.now device.old) from.now ∷ Event.Flush ∷ []) (state device.old) (state device.new)) }
@@ -113,7 +113,7 @@ impl<P: MetaPlace> SectorOf<P> for Last {
     }
 }
 
-// Stores each of these values in a sector, one after another.
+// Stores each of these values in a sector, in order, with a flush after each.
 fn store_each<T, S: SectorOf<T>>(
     sector: &S,
     device: &mut T,
@@ -131,8 +131,8 @@ fn store_each<T, S: SectorOf<T>>(
     Ok(())
 }
 
-/// Writes each of these values to sector `n` and flushes, one after another. Where it fails, the
-/// first of these events were done, and no others. It reads nothing.
+/// Writes each of these values to sector `n`, in order, with a flush after each. After a failure the first few of these
+/// events were done (none, some or all), and no others. Nothing is read.
 pub fn overwrite<D: Disk>(disk: &mut D, n: u64, values: &[Sector]) -> Result<(), DiskFailed>
     requires { n < (D.state disk.old).size }
     ensures ok { OnOk result (Logs (overwrite_events n values.now) (D.state disk.old) (D.state disk.new)) }
@@ -142,8 +142,8 @@ pub fn overwrite<D: Disk>(disk: &mut D, n: u64, values: &[Sector]) -> Result<(),
     store_each(&Numbered(n), disk, values)
 }
 
-/// Stores each of these values in the last sector, one after another. Where it fails, the first of
-/// these events were done, and no others. It reads nothing.
+/// Writes each of these values to the last sector, in order, with a flush after each. After a failure the first few of
+/// these events were done (none, some or all), and no others. Nothing is read.
 pub fn overwrite_last<P: MetaPlace>(place: &mut P, values: &[Sector]) -> Result<(), DiskFailed>
     requires { 0 < (P.state place.old).size }
     ensures ok { OnOk result (Logs (overwrite_events (last_sector (P.state place.old)) values.now) (P.state place.old) (P.state place.new)) }

@@ -1,4 +1,4 @@
-//! What gives bytes, what takes them, and where random bytes come from.
+//! Sources of bytes, sinks for bytes, and sources of random bytes.
 ghost use Rattle.std.specs.Prelude.{◌≡◌, ◌<◌, ◌≤◌, OnOk, IfOk, OnErr, length, take};
 ghost use Rattle.std.specs.Io.KnownBytes.{prepend_known, append_known, IsAtEnd};
 ghost use Rattle.block_traits.specs.Causes.{Counted, HasCause, Rose};
@@ -16,14 +16,14 @@ pub struct SinkFailed;
 #[derive(Clone, Copy, Debug, PartialEq, Eq)]
 pub struct EntropyFailed;
 
-/// What gives bytes, as standard input.
+/// A source of bytes, such as standard input.
 pub trait Source {
-    /// The bytes that are left, where it tells them; how often it has failed, which never falls; and counts of the
-    /// calls that were refused, and of those that met the end.
+    /// The bytes that are left, if the source tells them. Then counts: of failures, which never falls, of the calls
+    /// that were refused, and of those that met the end.
     ghost state: { Self → SourceState };
 
-    /// Moves the first bytes that are left to the front of `into`, and answers how many. 0 means
-    /// the end of input. A failure takes nothing, and `into` may then hold any bytes.
+    /// Moves the first bytes that are left to the front of `into`, and returns how many. 0 means the end of input. A
+    /// failure takes nothing, and `into` may then hold any bytes.
     fn take(&mut self, into: &mut [u8]) -> Result<usize, SourceFailed>
         requires { 0 < length into.old }
         ensures bound { IfOk result (λ k. k ≤ length into.new) }
@@ -38,14 +38,14 @@ pub trait Source {
         ensures unended { OnErr result ((state self.new).ends ≡ (state self.old).ends) };
 }
 
-/// What takes bytes, as standard output.
+/// A sink for bytes, such as standard output.
 pub trait Sink {
-    /// The bytes that it took, where it tells them; how often it has failed, which never falls; and counts of the
-    /// calls that were refused, and of those that gave nothing.
+    /// The bytes that the sink took, if it tells them. Then counts: of failures, which never falls, of the calls that
+    /// were refused, and of those that gave nothing.
     ghost state: { Self → SinkState };
 
-    /// Takes the first bytes of `from`, and answers how many. To take nothing of something is a
-    /// fault, and is counted; the call is then refused, as where it fails. A failure takes nothing.
+    /// Takes the first bytes of `from`, and returns how many. To take none of bytes that are there is counted as a
+    /// fault and as a refused call, just like a failure. A failure takes nothing.
     fn give(&mut self, from: &[u8]) -> Result<usize, SinkFailed>
         ensures bound { IfOk result (λ k. k ≤ length from.now) }
         ensures bytes { IfOk result (λ k. (state self.new).taken ≡ append_known (state self.old).taken (take k from.now)) }
@@ -59,14 +59,13 @@ pub trait Sink {
         ensures busy { 0 < length from.now → (state self.new).idle ≡ (state self.old).idle };
 }
 
-/// Where random bytes come from.
+/// A source of random bytes.
 pub trait Entropy {
-    /// The bytes that are left, where it tells them; how often it has failed, which never falls; and a
-    /// count of the calls.
+    /// The bytes that are left, if the object tells them. Then counts: of failures, which never falls, and of calls.
     ghost state: { Self → EntropyState };
 
-    /// Fills `into` with the first bytes that are left, in order. A failure takes nothing, and
-    /// `into` may then hold any bytes. It is counted whatever it answers.
+    /// Fills `into` with the first bytes that are left, in order. A failure takes nothing, and `into` may then hold any
+    /// bytes. The call is counted whatever the result.
     fn fill(&mut self, into: &mut [u8]) -> Result<(), EntropyFailed>
         ensures ok { OnOk result ((state self.old).left ≡ prepend_known into.new (state self.new).left) }
         ensures err { OnErr result ((state self.new).left ≡ (state self.old).left) }

@@ -30,7 +30,7 @@ block_before-more iv c j len =
     let at : 16 * (j + 1) ≡ length iv + 16 * j = omega arith in
     ap (take 16) (ap (λ (k : ℕ). drop k (iv ++ c)) at ∙ drop-append-add iv c (16 * j))
 
--- block i of a part that begins with block j, where `before` is the block before it
+-- block i of a part that begins with block j, if `before` is the block before the part
 pub opened_block-part : (key iv p before part : List ℕ) (j i : ℕ) → length iv ≡ 16 → length before ≡ 16 → before ≡ block (iv ++ p) j → ((n : ℕ) → n ≤ i → block part n ≡ block p (j + n))
     → opened_block key before part i ≡ opened_block key iv p (j + i)
 opened_block-part key iv p before part j zero len lb e same =
@@ -51,7 +51,7 @@ IsState-chained key iv p (suc j) hk hiv small le =
     IsState-encrypt key (xor (block p j) (chained key iv p j)) hk
     (IsState-xor (block p j) (chained key iv p j) (IsState-block p j small (omega arith)) (IsState-chained key iv p j hk hiv small (omega arith)))
 
--- the block before block j of the cipher text
+-- the block before block j of the ciphertext
 block_before-sealed : (key iv p : List ℕ) (n j : ℕ) → length iv ≡ 16 → AreBlocks (sealed key iv p) n → j < n
     → block (iv ++ blocks (sealed key iv p) n) j ≡ chained key iv p j
 unfolding chained
@@ -89,7 +89,7 @@ cbc_open-cbc_seal key iv p hk len iv_bytes small whole =
     ∙ blocks-same (opened_block key iv (blocks f n)) (block p) n (λ j lt. opened_block-sealed key iv p n j hk hiv small lp lt)
     ∙ blocks-block p n lp
 
--- the cipher text is as long as the plain text
+-- the ciphertext is as long as the plaintext
 pub length-cbc_seal : (key iv p : List ℕ) → IsKey key → IsState iv → AreBytes p → length p % 16 ≡ 0 → length (cbc_seal key iv p) ≡ length p
 length-cbc_seal key iv p hk hiv small whole =
     let n : ℕ = length p / 16 in

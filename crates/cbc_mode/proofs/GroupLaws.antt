@@ -57,7 +57,7 @@ wide_opened key before q m r s out old lb first even odd load ef es eo n ln =
     subst (λ (b : ℕ). block out b ≡ opened_block key before old b) at
     (eo i li j lj ∙ summed_at (side i r) (side i m) (side i s) (es i li) j lj ∙ (λ k. xor (inner k) (masks k)))
 
--- blocks in a group of so many with other bytes behind them
+-- blocks in a group, with other bytes after them
 pub rest_opened : (key before rest behind group plain out : List ℕ) (j m : ℕ) → length before ≡ 16 → group ≡ rest ++ behind → out ≡ take (length rest) plain
     → ((j : ℕ) → j < m → block plain j ≡ opened_block key before group j) → length rest ≤ 16 * m → 16 * j + 16 ≤ length rest → block out j ≡ opened_block key before rest j
 rest_opened key before rest behind group plain out j m lb eg eo es few le =
@@ -67,13 +67,13 @@ rest_opened key before rest behind group plain out j m lb eg eo es few le =
     ap (λ (l : List ℕ). block l j) eo ∙ block-take plain j (length rest) le ∙ es j (omega arith)
     ∙ opened_block-part key before rest before group 0 j lb lb (sym (block_before-start before rest lb)) same ∙ ap (opened_block key before rest) (none j)
 
--- the last of n + 1 blocks behind j stands before what comes next
+-- the last of n + 1 blocks from block j on stands before what comes next
 pub part_chain : (key iv p now last : List ℕ) (s k j n : ℕ) → length iv ≡ 16 → IsDone (opened_block key iv p) p now j → s ≡ 16 * j → 16 * n + 16 ≤ k → last ≡ block (take k (drop s now)) n
     → last ≡ block (iv ++ p) (j + n + 1)
 part_chain key iv p now last s k j n len done es fits e =
     e ∙ IsDone-part (opened_block key iv p) p now s k j n done es fits ∙ sym (block_before-more iv p (j + n) len)
 
--- m blocks of a text, behind j
+-- m blocks of a text, from block j on
 pub part_same : (key iv p now ys before : List ℕ) (s k j m : ℕ) → length iv ≡ 16 → length before ≡ 16 → before ≡ block (iv ++ p) j → IsDone (opened_block key iv p) p now j → s ≡ 16 * j → k ≡ 16 * m
     → ((i : ℕ) → i < m → block ys i ≡ opened_block key before (take k (drop s now)) i) → (i : ℕ) → i < m → block ys i ≡ opened_block key iv p (j + i)
 part_same key iv p now ys before s k j m len lb chain done es ek new i li =

@@ -1,4 +1,4 @@
--- How long what CBC gives is, and each block of a plain text.
+-- How long what CBC gives is, and each block of a plaintext.
 use Rattle.std.proofs.Common.{◌≡◌, ℕ, ◌+◌, ◌*◌, ◌/◌, ◌%◌, ◌<◌, ◌≤◌, List, ◌++◌, length, length-append, bit_xor, sym, ap, ◌∙◌, arith, add-one}
 use Rattle.std.proofs.lemmas.Simd.{length-zip2, length-chunk}
 use Rattle.aes_core.specs.Aes.{xor, decrypt}
@@ -27,7 +27,7 @@ length-opened key iv c n j long leniv fits lt =
 pub length-cbc_open : (key iv c : List ℕ) → IsKeyLength (length key) → length iv ≡ 16 → length c % 16 ≡ 0 → length (cbc_open key iv c) ≡ length c
 length-cbc_open key iv c long leniv whole = length-as_blocks (opened_block key iv c) c (λ j lt. length-opened key iv c (length c / 16) j long leniv (omega arith) lt) whole
 
--- block j of a plain text is made of blocks j - 1 and j of the cipher text alone
+-- block j of a plaintext depends on blocks j - 1 and j of the ciphertext alone
 block-cbc_open : (key iv c : List ℕ) (j : ℕ) → IsKeyLength (length key) → length iv ≡ 16 → 16 * j + 16 ≤ length c → block (cbc_open key iv c) j ≡ opened_block key iv c j
 block-cbc_open key iv c j long leniv fits =
     block-blocks (opened_block key iv c) (length c / 16) j (λ i lt. length-opened key iv c (length c / 16) i long leniv (omega arith) lt) (omega arith)

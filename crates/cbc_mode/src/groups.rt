@@ -13,8 +13,7 @@ use aes_planes::{
 };
 use std::simd::prelude::*;
 
-// Deciphers eight blocks in place, from the block of cipher text before them. The answer is the last block of cipher
-// text.
+// Deciphers eight blocks in place, given the block of ciphertext before them. Returns their last block of ciphertext.
 #[inline(never)]
 fn open_group(k: &SlicedSchedule, before: &Block, group: &mut [u8]) -> Block
     requires { length group.old ≡ 128 }
@@ -44,7 +43,7 @@ const BETWEEN: [usize; 32] = [
     40, 41, 42, 43, 44, 45, 46, 47,
 ];
 
-// The blocks before those of a vector, from the vector before it.
+// The block before each of the two blocks of a vector, from the vector before it.
 #[inline(always)]
 fn chained(before: u8x32, v: u8x32) -> u8x32
     requires before { length before ≡ 32 }
@@ -56,7 +55,7 @@ fn chained(before: u8x32, v: u8x32) -> u8x32
     before.shuffle(v, BETWEEN)
 }
 
-// The blocks before each of sixteen, the first of which has this one before it.
+// The block before each of sixteen blocks, the first of which has this one before it.
 #[inline(always)]
 fn blocks_before(before: &Block, cipher: WidePlanes) -> WidePlanes
     requires { AreWide cipher }
@@ -105,7 +104,7 @@ fn open_wide(k: &SlicedSchedule, before: &Block, group: &mut [u8]) -> Block
     last
 }
 
-// Deciphers sixteen blocks in place, eight after eight.
+// Deciphers sixteen blocks in place, first eight and then the other eight.
 fn open_twice(k: &SlicedSchedule, before: &Block, group: &mut [u8]) -> Block
     requires { length group.old ≡ 256 }
     ensures opened { (j : ℕ) → j < 16 → block group.new j ≡ opened_block k.now before.now group.old j }
@@ -120,8 +119,8 @@ fn open_twice(k: &SlicedSchedule, before: &Block, group: &mut [u8]) -> Block
     last
 }
 
-/// Deciphers sixteen blocks in place, from the block of cipher text before them. The answer is the last block of cipher
-/// text.
+/// Deciphers sixteen blocks in place, given the block of ciphertext before them. Returns their last block of
+/// ciphertext.
 pub fn open_sixteen(k: &SlicedSchedule, before: &Block, group: &mut [u8]) -> Block
     requires { length group.old ≡ 256 }
     ensures opened { (j : ℕ) → j < 16 → block group.new j ≡ opened_block k.now before.now group.old j }
@@ -157,7 +156,7 @@ fn open_many(k: &SlicedSchedule, before: &Block, rest: &mut [u8])
     rest.copy_from_slice(&group[..rest.len()]);
 }
 
-/// Deciphers fewer than sixteen blocks in place, from the block of cipher text before them. Bytes behind the last whole
+/// Deciphers fewer than sixteen blocks in place, given the block of ciphertext before them. Bytes after the last whole
 /// block may change.
 pub fn open_rest(k: &SlicedSchedule, before: &Block, rest: &mut [u8])
     requires { length rest.old < 256 }

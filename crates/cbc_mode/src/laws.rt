@@ -14,8 +14,8 @@ pub fn cbc_keeps_lengths()
         length (cbc_open key iv cipher) ≡ length cipher }
 {}
 
-/// A law: a block of a plain text is made of its block of the cipher text and of the one before alone, which for the
-/// first is the initial vector.
+/// A law: a block of plaintext depends only on the block of ciphertext at its place and on the one before, which for
+/// the first is the initial vector.
 pub fn cbc_opens_block_by_block()
     ensures first { (key iv cipher : List ℕ) → IsKeyLength (length key) → length iv ≡ 16 → 16 ≤ length cipher →
         block (cbc_open key iv cipher) 0 ≡ xor (decrypt key (block cipher 0)) iv }

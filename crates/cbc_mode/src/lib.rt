@@ -16,7 +16,7 @@ use aes_planes::SlicedSchedule;
 use groups::{open_rest, open_sixteen};
 pub use laws::{cbc_keeps_lengths, cbc_opens_block_by_block};
 
-// The cipher text of one block, from the block of cipher text before it.
+// The ciphertext of one block, given the block of ciphertext before it.
 #[inline(always)]
 fn sealed(k: &Schedule, plain: Block, before: Block) -> Block
     ensures { result ≡ encrypt k.now (xor plain before) }
@@ -26,7 +26,7 @@ fn sealed(k: &Schedule, plain: Block, before: Block) -> Block
     out
 }
 
-/// Enciphers whole blocks in place, under this key and initial vector. `cbc_open` takes it back.
+/// Enciphers whole 16-byte blocks in place, under this key and initial vector. `cbc_open` takes it back.
 pub fn cbc_seal(k: &Schedule, iv: &[u8; 16], block: &mut [u8])
     requires { length block.old % 16 ≡ 0 }
     ensures sealed { block.new ≡ cbc_seal k.now iv.now block.old }
@@ -39,13 +39,13 @@ pub fn cbc_seal(k: &Schedule, iv: &[u8; 16], block: &mut [u8])
         block[16 * j..16 * j + 16].copy_from_slice(&cipher);
         last = cipher;
     }
-    // Opening takes it back since the schedule is that of a key.
+    // Opening takes sealing back, since the schedule is that of a key.
     k.is_of_a_key();
 }
 
-/// Deciphers whole blocks in place, under this key and initial vector.
+/// Deciphers whole 16-byte blocks in place, under this key and initial vector.
 ///
-/// It makes the bit planes of `k` each time; `cbc_open_sliced` takes them.
+/// Each call makes the bit planes of `k`; `cbc_open_sliced` takes them ready made.
 pub fn cbc_open(k: &Schedule, iv: &[u8; 16], block: &mut [u8])
     requires { length block.old % 16 ≡ 0 }
     ensures { block.new ≡ cbc_open k.now iv.now block.old }
@@ -53,7 +53,7 @@ pub fn cbc_open(k: &Schedule, iv: &[u8; 16], block: &mut [u8])
     cbc_open_sliced(&SlicedSchedule::new(k), iv, block);
 }
 
-/// As `cbc_open`, under planes of the key that were made before.
+/// Deciphers whole 16-byte blocks in place, like `cbc_open`, but with the bit planes of the key ready made.
 pub fn cbc_open_sliced(k: &SlicedSchedule, iv: &[u8; 16], block: &mut [u8])
     requires { length block.old % 16 ≡ 0 }
     ensures { block.new ≡ cbc_open k.now iv.now block.old }

@@ -1,4 +1,4 @@
--- Ciphers and authentications are told by their numbers.
+-- Ciphers and authentications are told apart by their numbers.
 use Rattle.std.proofs.Common.{◌≡◌, refl, arith}
 use Rattle.eli_base.specs.Algorithms.{auth_number, cipher_number}
 use Rattle.eli_base.specs.declared.algorithms.Auth.{Auth}

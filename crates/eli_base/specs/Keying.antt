@@ -5,8 +5,8 @@ use Rattle.eli_base.specs.declared.algorithms.Cipher.{Cipher}
 use Rattle.eli_base.specs.declared.parameters.Params.{Params}
 use Rattle.eli_base.specs.declared.parameters.MasterKey.{MasterKey}
 
--- All that the bytes of a sealed sector depend on, beside its number and its plain bytes. The size of the
--- provider and whether it is read-only are no part of it.
+-- All that the bytes of a sealed sector depend on, beside its number and its plaintext. The size of the provider and
+-- whether it is read-only are no part of it.
 pub record Keying : Type 0 where
   pub version : ℕ
   pub auth : Auth

@@ -54,7 +54,7 @@ number_of (BadPlace place media) = 46
 number_of NotAuthenticated = 47
 number_of (BadPlaceFile word length) = 48
 
--- of refusals in their order, each with its condition, the first whose condition holds
+-- the first of these refusals whose condition holds
 abbrev pub first_that_holds : {F : Type 0} → List (Bool × F) → Option F
 first_that_holds [] = None
 first_that_holds ((holds, refusal) ∷ others) = if holds then Some refusal else first_that_holds others

@@ -11,7 +11,7 @@ tag_bytes Sha256 = 32
 tag_bytes Sha384 = 48
 tag_bytes Sha512 = 64
 
--- the plain bytes of a unit that isn't the last of its logical sector: what the tag leaves of a device sector
+-- the bytes of plaintext in a unit that isn't the last of its logical sector: what the tag leaves of a device sector
 abbrev pub unit_bytes_of : Auth → ℕ
 unit_bytes_of auth = 512 - tag_bytes auth
 
@@ -20,7 +20,7 @@ unit_bytes_of auth = 512 - tag_bytes auth
 abbrev pub units_per_sector : Auth → ℕ → ℕ
 units_per_sector auth sectorsize = (sectorsize - 1) / unit_bytes_of auth + 1
 
--- the plain bytes of the last unit: the rest
+-- the bytes of plaintext in the last unit: those that the other units leave of the logical sector
 abbrev pub last_unit_bytes : Auth → ℕ → ℕ
 last_unit_bytes auth sectorsize = sectorsize - (units_per_sector auth sectorsize - 1) * unit_bytes_of auth
 

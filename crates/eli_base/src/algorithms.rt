@@ -13,8 +13,8 @@ pub enum Cipher {
 }
 
 impl Cipher {
-    /// Whether a key of `keylen` bits is one for this cipher, geli(8) `-l`: 128, 192 or 256 for
-    /// AES-CBC, 128 or 256 for AES-XTS.
+    /// Whether this cipher takes a key of `keylen` bits (geli(8), `-l`): 128, 192 or 256 for AES-CBC, 128 or 256 for
+    /// AES-XTS.
     pub fn allows(self, keylen: u16) -> bool
         ensures { result ≡ allows_length self keylen }
     {
@@ -24,7 +24,7 @@ impl Cipher {
         }
     }
 
-    /// Its number in the metadata (cryptodev.h).
+    /// The cipher's number in the metadata (cryptodev.h).
     pub fn number(self) -> u16
         ensures { result ≡ cipher_number self }
     {
@@ -49,7 +49,7 @@ pub enum Auth {
 }
 
 impl Auth {
-    /// Its number in the metadata (cryptodev.h), 0 for none.
+    /// The authentication's number in the metadata (cryptodev.h), 0 for none.
     pub fn number(self) -> u16
         ensures { result ≡ auth_number self }
     {
@@ -61,7 +61,8 @@ impl Auth {
         }
     }
 
-    /// The bytes of the tag with which each device sector begins, 0 for none: as many as the code of the hash has.
+    /// The bytes of the tag with which each device sector begins: as many as the HMAC code has, or 0 without
+    /// authentication.
     pub fn tag_bytes(self) -> usize
         ensures { result ≡ tag_bytes self }
     {

@@ -23,14 +23,14 @@ pub struct UnitSpan {
     pub count: u64,
 }
 
-/// How a logical sector is cut into units, each of which stands in a device sector of its own, geli(8).
+/// How a logical sector is cut into units, each of which stands in a device sector of its own (geli(8)).
 #[derive(Clone, Copy, Debug, PartialEq, Eq)]
 pub struct SectorLayout {
     /// The bytes of a logical sector.
     pub size: usize,
     /// The device sectors of one logical sector.
     pub units: usize,
-    /// The plain bytes of a unit that is not the last of its logical sector.
+    /// The bytes of plaintext in a unit that is not the last of its logical sector.
     pub unit_bytes: usize,
     pub ghost some_units: { 1 ≤ units },
     pub ghost few_units: { units ≤ 147 },
@@ -64,8 +64,8 @@ impl SectorLayout {
     }
 }
 
-/// How the logical sectors of a provider stand in the device sectors of its image, geli(8). The last
-/// device sector of the image has the metadata, and no unit stands there.
+/// How the logical sectors of a provider stand in the device sectors of its image (geli(8)). The last device sector of
+/// the image has the metadata, and no unit stands there.
 #[derive(Clone, Copy, Debug, PartialEq, Eq)]
 pub struct Geometry {
     /// The bytes of a logical sector.
@@ -74,9 +74,9 @@ pub struct Geometry {
     pub sectors: u64,
     /// The device sectors of one logical sector.
     pub units: u64,
-    /// The plain bytes of a unit that is not the last of its logical sector.
+    /// The bytes of plaintext in a unit that is not the last of its logical sector.
     pub unit_bytes: u64,
-    /// The plain bytes of the last unit.
+    /// The bytes of plaintext in the last unit.
     pub last_bytes: u64,
     pub ghost bounded: { sectors * units < 2 ^ 44 },
     pub ghost some_sectors: { 1 ≤ sectors },
@@ -92,7 +92,7 @@ pub struct Geometry {
 impl Geometry {
     ghost use Rattle.eli_base.specs.Geometry.{IsGeometryOf};
 
-    /// The geometry of a provider. It is refused exactly where the image has no whole logical sector.
+    /// The geometry of a provider. It is refused exactly if the image has no whole logical sector.
     pub fn of(params: &Params) -> Result<Geometry, GeoFault>
         ensures geometry { MatchResult result
             (λ geometry. IsGeometryOf params.now geometry)

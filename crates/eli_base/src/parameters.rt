@@ -6,10 +6,10 @@ ghost use Rattle.eli_base.specs.SectorSize.{is_sector_size};
 
 use crate::algorithms::{Auth, Cipher};
 
-/// The most bytes of a request.
+/// The most bytes that a request may ask for.
 pub const REQUEST_LIMIT: u64 = 131_072;
 
-/// Whether `size` bytes are a logical sector, geli(8) `-s`: a power of two from 512 to 65,536.
+/// Whether a logical sector may have `size` bytes (geli(8), `-s`): a power of two from 512 to 65,536.
 pub fn sector_size_ok(size: u32) -> bool
     ensures answer { result ≡ is_sector_size size }
     ensures at_least { OnTrue result (512 ≤ size) }
@@ -49,8 +49,8 @@ pub struct Params {
 }
 
 impl Params {
-    /// Parameters of these values. The caller shows the three conditions, as by
-    /// [`Cipher::allows`] and [`sector_size_ok`].
+    /// Parameters with these values. The caller proves the three conditions, for example by [`Cipher::allows`] and
+    /// [`sector_size_ok`].
     pub fn new(
         version: u32,
         auth: Auth,

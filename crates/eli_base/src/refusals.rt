@@ -75,7 +75,7 @@ pub enum Refusal {
     KeyNotSet { slot: u8 },
     /// This slot is the only one that is set.
     LastKey { slot: u8 },
-    /// The iterations change only where the target is the only slot that is set.
+    /// The iterations can change only if the target is the only slot that is set.
     IterationsNeedOneKey,
     /// A passphrase is needed.
     PassphraseNeeded,
@@ -93,7 +93,7 @@ pub enum Refusal {
     CabinetFault { word: u32 },
     /// The random bytes could not be had.
     EntropyFault,
-    /// With the file of this word this limit in bytes is passed.
+    /// With the file that this word names, this limit in bytes is exceeded.
     FileTooLong { word: u32, limit: u64 },
     /// The backup has too few bytes.
     BackupTooShort { length: u64 },
@@ -109,7 +109,7 @@ pub enum Refusal {
     BadLength { given: u64, sectorsize: u32 },
     /// The slot must be named.
     KeyNumberNeeded,
-    /// No request more can be open.
+    /// No more requests can be open.
     QueueFull,
     /// No open request has the tag.
     NoRequest { tag: u8 },
@@ -125,7 +125,7 @@ pub enum Refusal {
     NotSuspended,
     /// The key opens another master key than the suspended provider had.
     DifferentKey,
-    /// The place of a sweep, in logical sectors, is behind the last of so many.
+    /// The place of a sweep, in logical sectors, is beyond the last of so many.
     BadPlace { place: u64, media: u64 },
     /// The data are not authenticated.
     NotAuthenticated,

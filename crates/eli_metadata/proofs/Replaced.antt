@@ -27,7 +27,7 @@ KeepsOldOr-replace_part disk disk' m fails =
     AtEachMoment-FailsIn (HoldsOldOr (IsSectorOf m) (last_sector disk)) (replace_events disk m) disk disk'
     (λ c k told. HoldsOldOr-more (IsSectorOf m) (last_sector disk) (replace_events disk m) (only_new disk m) c k) fails
 
--- the same of a store, which writes and flushes
+-- a store, which writes and flushes, keeps what was there or leaves the new metadata
 
 All-one : (m : Metadata) → All (IsSectorOf m) (encoded m ∷ [])
 All-one m = All-cons (IsSectorOf m) (encoded m) [] refl (All-nil (IsSectorOf m))

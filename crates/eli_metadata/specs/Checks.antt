@@ -54,8 +54,7 @@ auth_numbered aalgo =
 abbrev pub auth_of : Metadata → Option Auth
 auth_of m = if is_authenticated m then auth_numbered m.aalgo else Some Off
 
--- the cipher and the authentication of the data; of a number that is no cipher's or authentication's it isn't asked,
--- since it is refused
+-- the cipher and the authentication of the data; for a number that names none they don't matter, since it is refused
 abbrev pub cipher_in : Metadata → Cipher
 cipher_in m = unwrap_or (cipher_of m.ealgo) AesXts
 

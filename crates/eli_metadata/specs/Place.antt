@@ -1,4 +1,4 @@
--- What a read of the metadata answers, and what a read and a change of them do to the disk.
+-- What a read of the metadata returns, and what a read and a change of the metadata do to the disk.
 use Rattle.std.specs.Prelude.{◌≡◌, ℕ, ◌<◌, ◌≤◌, ◌*◌, List, [], ◌∷◌, length, Result, Ok, Err}
 use Rattle.block_traits.specs.Causes.{Counted}
 use Rattle.block_traits.specs.Disk.{DiskState, FailsIn, Gives, Logs, last_sector, store_events}
@@ -10,7 +10,7 @@ use Rattle.eli_metadata.specs.declared.metadata.MetaFault.{MetaFault}
 use Rattle.eli_metadata.specs.declared.place.ReadMetaFault.{ReadMetaFault}
 use Rattle.eli_metadata.specs.declared.place.ReadMetaFault.TheVariants.{TooSmall, DeviceFault, Meta}
 
--- the last device sector was read once, without an event, and what it holds is the answer
+-- the last device sector was read once, without an event, and the answer is what it holds
 pub record ReadsLast (before : DiskState) (answer : Result Metadata MetaFault) (after : DiskState) : Type 0 where
   pub enough : 2 ≤ before.size
   pub bytes : List ℕ
@@ -20,7 +20,7 @@ pub record ReadsLast (before : DiskState) (answer : Result Metadata MetaFault) (
   pub logs : Logs [] before after
   pub asked : Counted 1 before.reads after.reads
 
--- its one read failed
+-- the one read of the last device sector failed
 pub record FailsToRead (before after : DiskState) : Type 0 where
   pub enough : 2 ≤ before.size
   pub fails : FailsIn [] before after

@@ -1,4 +1,4 @@
-//! Little-endian numbers and bytes at places of a sector, read, and put there from its start on.
+//! Little-endian numbers and bytes at places of a sector: read there, and put there from its start on.
 ghost use Rattle.std.specs.Prelude.{◌≡◌, ◌<◌, ◌≤◌, ◌+◌, ◌^◌, ◌++◌, drop, length, take, FitsSigned};
 ghost use Rattle.std.specs.Int.{w32};
 ghost use Rattle.eli_metadata.specs.Format.{number_at, number_bytes, signed_at, signed_bytes};
@@ -42,7 +42,7 @@ pub fn u64_at(from: &Sector, place: usize) -> u64
     LittleEndian::read_u64(&from[place..place + 8])
 }
 
-/// Puts bytes at a place. What stands before and behind them stays.
+/// Puts bytes at a place. What stands before and after them stays.
 pub fn put(into: &mut [u8], place: usize, bytes: &[u8])
     requires { place + length bytes.now ≤ length into.old }
     ensures bytes { take (place + length bytes.now) into.new ≡ take place into.old ++ bytes.now }

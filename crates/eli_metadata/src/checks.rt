@@ -6,15 +6,14 @@ use crate::metadata::{FLAG_AUTH, FLAG_RO};
 use crate::{MetaFault, Metadata};
 use eli_base::{Auth, Cipher, Params, sector_size_ok};
 
-// ONETIME, and the flags that g_eli.h doesn't name.
+// The flag `G_ELI_FLAG_ONETIME`, and the flags that g_eli.h doesn't name.
 const UNSUPPORTED_FLAGS: u32 = 0xFFFF_FC01;
 
 /// Whether the data of a provider with this metadata can be read and written, and how.
 ///
-/// In this order: `UnsupportedFlags`, with those of the mask 0xFFFFFC01 that are set;
-/// `UnsupportedCipher`; `BadKeyLength`; `UnsupportedAuth`, where the flag AUTH is set; `BadSectorSize`;
-/// `BadSize`, with `found` 0, where the size is 2^53 bytes or more. Of the flags only AUTH and RO are
-/// acted on.
+/// Faults are reported in this order: `UnsupportedFlags`, with those of the mask 0xFFFFFC01 that are set;
+/// `UnsupportedCipher`; `BadKeyLength`; `UnsupportedAuth`, if the flag AUTH is set; `BadSectorSize`; `BadSize`, with
+/// `found` 0, if the size is 2^53 bytes or more. Of the flags only AUTH and RO are acted on.
 #[tactic(auto, unfolding(crate::specs::Checks::supported))]
 pub fn check(meta: &Metadata) -> Result<Params, MetaFault>
     ensures { MatchResult result (λ params. supported meta.now ≡ Ok (settings_of params)) (λ fault. supported meta.now ≡ Err fault) }
@@ -89,8 +88,8 @@ fn is_readonly(meta: &Metadata) -> bool
     meta.flags & FLAG_RO != 0
 }
 
-/// Whether the metadata is that of an image of so many device sectors: `BadSize` exactly where its
-/// size isn't 512 times their number.
+/// Whether the metadata is that of an image of so many device sectors: `BadSize` exactly if its size isn't 512 times
+/// their number.
 pub fn size_gate(meta: &Metadata, sectors: u64) -> Result<(), MetaFault>
     requires { sectors < 2 ^ 44 }
     ensures { result ≡ size_matches meta.now sectors }
@@ -107,8 +106,8 @@ pub fn size_gate(meta: &Metadata, sectors: u64) -> Result<(), MetaFault>
 
 /// Whether some slot holds a key, and so does the named one.
 ///
-/// In this order: `NoValidKeys`, exactly where slots 0 and 1 are clear; `KeyNumberOutOfRange`,
-/// exactly where the named slot is above 1; `KeyNotSet`, exactly where it is clear.
+/// Faults are reported in this order: `NoValidKeys`, exactly if slots 0 and 1 are clear; `KeyNumberOutOfRange`, exactly
+/// if the named slot is above 1; `KeyNotSet`, exactly if it is clear.
 pub fn slot_gate(meta: &Metadata, slot: Option<u8>) -> Result<(), MetaFault>
     ensures { result ≡ slot_matches meta.now slot }
 {

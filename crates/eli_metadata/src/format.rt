@@ -14,8 +14,8 @@ const MAGIC: [u8; 16] = *b"GEOM::ELI\0\0\0\0\0\0\0";
 
 /// Reads the metadata in a sector (g_eli.h, `eli_metadata_decode`).
 ///
-/// In this order: `BadMagic`; `BadVersion`, where the version isn't 5, 6 or 7, or it is 5 and the flag AUTH is set;
-/// `BadHash`. Byte 511 isn't read.
+/// Faults are reported in this order: `BadMagic`; `BadVersion`, if the version isn't 5, 6 or 7, or it is 5 and the flag
+/// AUTH is set; `BadHash`. Byte 511 isn't read.
 #[tactic(auto, unfolding(crate::specs::Format::metadata_in))]
 pub fn decode(from: &Sector) -> Result<Metadata, MetaFault>
     ensures meaning { result ≡ metadata_in from.now }

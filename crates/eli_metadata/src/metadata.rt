@@ -39,8 +39,7 @@ pub struct Metadata {
     pub sectorsize: u32,
     /// Bit n says that slot n holds a master key.
     pub keys: u8,
-    /// Below 0: no passphrase was set up (-1 is written); 0: PBKDF2 isn't used; above 0: its
-    /// iterations.
+    /// The iterations of PBKDF2 if above 0. 0: PBKDF2 isn't used. Below 0: no passphrase was set up (-1 is written).
     pub iterations: i32,
     /// The salt of the passphrase.
     pub salt: [u8; 64],
@@ -57,7 +56,7 @@ impl Metadata {
         self.keys & (1 << slot) != 0
     }
 
-    /// All fields fit their types, so that what is written is read again.
+    /// A law: all fields fit their types, so that what is written is read again.
     pub fn fits_types(self)
         ensures { IsWhole self }
     {

@@ -38,9 +38,9 @@ impl From<ReadMetaFault> for Refusal {
 
 /// Reads the metadata in the last device sector.
 ///
-/// In this order: `TooSmall`, exactly where there are fewer than two device sectors, and then no call is
-/// made; `DeviceFault`, only where the count of faults rose; the fault of `decode`. The sector is read once,
-/// also where that fails.
+/// Faults are reported in this order: `TooSmall`, exactly if there are fewer than two device sectors, and then no call
+/// is made; `DeviceFault`, only if the count of faults rose; the fault of `decode`. The sector is read once, even if
+/// that fails.
 pub fn read_metadata<P: MetaPlace>(place: &mut P) -> Result<Metadata, ReadMetaFault>
     ensures reads { ReadsMetadata (P.state place.old) result (P.state place.new) }
     ensures rest { P.rest place.new ≡ P.rest place.old }
@@ -58,11 +58,11 @@ pub fn read_metadata<P: MetaPlace>(place: &mut P) -> Result<Metadata, ReadMetaFa
     decode(&bytes).map_err(ReadMetaFault::Meta)
 }
 
-/// Puts metadata in the place of what the last sector has: what was written before lasts first, and the
-/// metadata last when it is done. Where it fails, the first of the three events were done, and no others.
+/// Replaces the content of the last sector by metadata: flushes what was written before, writes the metadata, and
+/// flushes again. After a failure the first few of these three events were done (none, some or all), and no others.
 /// Nothing is read.
 ///
-/// The sector that is written is read as the metadata, if they are of a version that is read.
+/// The sector that is written is read as this metadata, if its version is one that is read.
 pub fn replace_metadata<D: Disk>(disk: &mut D, meta: &Metadata) -> Result<(), DiskFailed>
     requires { 0 < (D.state disk.old).size }
     ensures read { IsTrue (is_served meta.now.version meta.now.flags) → metadata_in (encoded meta.now) ≡ Ok meta.now }

@@ -1,4 +1,4 @@
--- The three codes as what HMAC is over their hash functions.
+-- The three codes, each as HMAC over its hash function.
 use Rattle.std.specs.Prelude.{◌≡◌, ℕ, List, refl}
 use Rattle.sha2.specs.Sha256.{sha256}
 use Rattle.sha2.specs.Sha512.{sha384, sha512}

@@ -3,7 +3,7 @@ use Rattle.std.specs.Prelude.{ℕ, ◌-◌, List, ◌++◌, length, map, replica
 use Rattle.sha2.specs.Sha256.{sha256}
 use Rattle.sha2.specs.Sha512.{sha384, sha512}
 
--- bytes and as many zeros behind them as a block of this size wants
+-- these bytes, filled up with zeros to a block of this size
 abbrev pub filled_block : ℕ → List ℕ → List ℕ
 filled_block size bytes = bytes ++ replicate (size - length bytes) 0
 

@@ -11,8 +11,8 @@ xor_lists xs ys = zip2 bit_xor xs ys
 abbrev pub block_number : List ℕ
 block_number = 0 ∷ 0 ∷ 0 ∷ 1 ∷ []
 
--- U_1 at 0, U_2 at 1 and so on: the first is the HMAC of the salt and the block's number, each other that of the one
--- before
+-- U_1 at 0, U_2 at 1 and so on: the first is the HMAC of the salt and the block's number, each later one that of the
+-- one before
 unfoldable pub iterate : List ℕ → List ℕ → ℕ → List ℕ
 iterate password salt zero = hmac512 password (salt ++ block_number)
 iterate password salt (suc n) = hmac512 password (iterate password salt n)

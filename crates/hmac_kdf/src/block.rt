@@ -9,7 +9,7 @@ pub const INNER_PAD: u8 = 0x36;
 /// The byte opad, which is added to the key's block before the inner hash is hashed.
 pub const OUTER_PAD: u8 = 0x5c;
 
-/// The bytes, and zeros behind them up to a block.
+/// A block of these bytes, filled up with zeros.
 pub fn filled_block<const N: usize>(bytes: &[u8]) -> [u8; N]
     requires { length bytes.now ≤ N }
     ensures { result ≡ filled_block N bytes.now }

@@ -12,7 +12,7 @@ use crate::mac::Hmac512;
 // INT (1): the number of the one block.
 const BLOCK_NUMBER: [u8; 4] = [0, 0, 0, 1];
 
-// A hasher with the same key and message, so that the key is hashed once for all iterations.
+// A copy of a hasher with its key and message, so that the key is hashed once for all iterations.
 fn copy_of(hasher: &Hmac512) -> Hmac512
     ensures { result ≡ hasher.now }
 {

@@ -1,6 +1,6 @@
 //! HMAC (RFC 2104) over SHA-256, SHA-384 and SHA-512, and PBKDF2 (RFC 8018) over HMAC-SHA-512.
 //!
-//! A hasher is made with a key, takes its message in pieces, and ends with the code. No call takes memory.
+//! A hasher is made with a key, takes its message in pieces, and ends with the code. No call allocates memory.
 #![tactic(auto)]
 
 mod block;

@@ -1,4 +1,4 @@
-//! HMAC over a hash function that is called by `Digest` of `sha2`.
+//! HMAC (RFC 2104) over a hash function that is called through `Digest` of `sha2`.
 
 ghost use Rattle.std.specs.Prelude.{◌≡◌, ℕ, ◌≤◌, ◌<◌, List, [], ◌++◌};
 ghost use Rattle.std.proofs.Common.{lit<, lit≤};
@@ -16,7 +16,7 @@ pub trait BlockHash<const B: usize, const N: usize>: Digest<Output = [u8; N]> {
     // The digest of a message.
     ghost hash: { List ℕ → List ℕ };
 
-    // The code of a message under a key, which stands first.
+    // The code of a message under a key; the key is the first argument.
     ghost code: { List ℕ → List ℕ → List ℕ };
 
     ghost sizes: { (N ≤ B) × (B < 256) };
@@ -65,19 +65,19 @@ impl BlockHash<128, 64> for Sha512 {
 /// HMAC (RFC 2104) of a message that comes in pieces: `new`, an `update` for each piece, and `finish`.
 #[derive(Clone, Drop)]
 pub struct Hmac<H: Drop, const B: usize, const N: usize> {
-    // The hash of the key's block with the inner pad, and of the message behind it.
+    // The inner hash: of the key's block with the inner pad, and then of the message.
     inner: H,
-    // The hash of the key's block with the outer pad.
+    // The outer hash, so far of the key's block with the outer pad alone.
     outer: H,
 }
 
-/// HMAC-SHA-256.
+/// HMAC-SHA-256, with codes of 32 bytes.
 pub type Hmac256 = Hmac<Sha256, 64, 32>;
 
-/// HMAC-SHA-384.
+/// HMAC-SHA-384, with codes of 48 bytes.
 pub type Hmac384 = Hmac<Sha384, 128, 48>;
 
-/// HMAC-SHA-512.
+/// HMAC-SHA-512, with codes of 64 bytes.
 pub type Hmac512 = Hmac<Sha512, 128, 64>;
 
 impl<H: BlockHash<B, N>, const B: usize, const N: usize> Hmac<H, B, N> {
@@ -94,7 +94,7 @@ impl<H: BlockHash<B, N>, const B: usize, const N: usize> Hmac<H, B, N> {
         }
     }
 
-    // The code, of the two hashes.
+    // The code: the outer hash, completed with the digest of the inner one.
     fn code(inner: H, mut outer: H) -> [u8; N]
         ensures { (k m : List ℕ) → H.holds inner (masked 0x36 (key_block H.hash B k) ++ m)
             → H.holds outer (masked 0x5C (key_block H.hash B k)) → result ≡ H.code k m }

@@ -1,14 +1,14 @@
--- The first slot that opens, by what each of the two slots answers.
+-- The first slot that opens, by what each of the two slots opens to.
 use Rattle.std.proofs.Common.{◌≡◌, ℕ, zero, suc, ◌↔◌, List, [], Option, Some, None, unwrap_or, subst, sym, ap, ◌∙◌, arith}
 use Rattle.eli_base.specs.declared.parameters.MasterKey.{MasterKey}
 use Rattle.eli_metadata.specs.declared.metadata.Metadata.{Metadata}
 use Rattle.key_slots.specs.Slots.{IsFirstToOpen, Opens, numbered}
 
--- this is what slot s answers, with its number
+-- the answer is the master key to which slot s opens and its number, or none if it doesn't open
 abbrev Tells : Metadata → List ℕ → ℕ → Option (MasterKey × ℕ) → Type 0
 Tells m u s answer = (master : List ℕ) → Opens m u s master ↔ (answer ≡ Some (record { bytes = master }, s))
 
--- this is what is answered of the first slot that opens
+-- the answer is the master key and the number of the first slot that opens, or none if neither does
 abbrev TellsFirst : Metadata → List ℕ → Option (MasterKey × ℕ) → Type 0
 TellsFirst m u answer = (s : ℕ) (master : List ℕ) → IsFirstToOpen m u s master ↔ (answer ≡ Some (record { bytes = master }, s))
 
@@ -21,7 +21,7 @@ unfolding number_of
 number_in None s t master e = absurd cc
 number_in (Some x) s t master e = ap number_of e
 
--- a slot that answers nothing opens to nothing
+-- a slot with no answer opens to no master key
 closed : (m : Metadata) (u : List ℕ) (s : ℕ) (answer : Option (MasterKey × ℕ)) → answer ≡ None → Tells m u s answer → (master : List ℕ) → ¬ Opens m u s master
 closed m u s answer none tells master opens = let e = (tells master).0 opens in absurd cc
 
@@ -38,7 +38,7 @@ first-0 m u (Some x) answer is some tells (suc s) master = (
   λ e. let same = number_in (Some x) 0 (suc s) master (sym is ∙ e) in absurd (omega arith),
 )
 
--- slot 0 doesn't open, so slot 1 is the first where it opens
+-- slot 0 doesn't open, so slot 1 is the first if it opens
 pub first-1 : (m : Metadata) (u : List ℕ) (master_1 : Option MasterKey) (answer_0 answer : Option (MasterKey × ℕ)) → answer_0 ≡ None → Tells m u 0 answer_0
     → answer ≡ numbered master_1 1 → Tells m u 1 answer → TellsFirst m u answer
 first-1 m u master_1 answer_0 answer none tells_0 is tells zero master = (

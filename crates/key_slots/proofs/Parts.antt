@@ -8,7 +8,7 @@ take_front n xs ys len = take-append-le n xs ys (omega arith) ∙ take_all n xs 
 pub drop_front : (n : ℕ) (xs ys : List ℕ) → length xs ≡ n → drop n (xs ++ ys) ≡ ys
 drop_front n xs ys len = drop-append-le n xs ys (omega arith) ∙ ap (λ (l : List ℕ). l ++ ys) (drop_all n xs (omega arith))
 
--- two lists that were put one behind the other
+-- two lists that were put one after the other
 pub put_both : (n m : ℕ) (middle new first second : List ℕ) → length first ≡ n → length second ≡ m → length new ≡ n + m
     → take (0 + length first) middle ≡ first → take (n + length second) new ≡ take n middle ++ second → new ≡ first ++ second
 put_both n m middle new first second long long' whole put put' =

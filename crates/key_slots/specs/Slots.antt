@@ -9,7 +9,7 @@ use Rattle.eli_metadata.specs.Checks.{is_set}
 use Rattle.eli_metadata.specs.declared.metadata.Metadata.{Metadata}
 use Rattle.hmac_kdf.specs.Hmac.{hmac512}
 
--- the key lengths of AES in bits; slots are wrapped by AES-CBC also where the data cipher is AES-XTS
+-- the key lengths of AES in bits; slots are wrapped by AES-CBC even if the data cipher is AES-XTS
 abbrev pub IsKeyBits : ℕ → Type 0
 IsKeyBits keylen = (keylen ≡ 128) ⊎ ((keylen ≡ 192) ⊎ (keylen ≡ 256))
 
@@ -19,7 +19,7 @@ IsKeyBits keylen = (keylen ≡ 128) ⊎ ((keylen ≡ 192) ⊎ (keylen ≡ 256))
 abbrev pub check_code : List ℕ → List ℕ → List ℕ
 check_code u master = hmac512 (hmac512 u (0x00 ∷ [])) master
 
--- the plain text of a slot: 192 bytes
+-- the plaintext of a slot: 192 bytes
 abbrev pub slot_text : List ℕ → List ℕ → List ℕ
 slot_text u master = master ++ check_code u master
 
@@ -63,7 +63,7 @@ pub record IsFirstToOpen (m : Metadata) (u : List ℕ) (s : ℕ) (master : List 
 abbrev pub has_code : List ℕ → List ℕ → Bool
 has_code u text = bytes_eq (drop 128 text) (check_code u (take 128 text))
 
--- the master key in a text of 192 bytes, if the code behind it is right
+-- the master key in a text of 192 bytes, if the code after it is right
 abbrev pub master_in : List ℕ → List ℕ → Option MasterKey
 master_in u text = if has_code u text then Some (record { bytes = take 128 text }) else None
 
@@ -71,12 +71,12 @@ master_in u text = if has_code u text then Some (record { bytes = take 128 text 
 abbrev pub unwrapped : Metadata → List ℕ → ℕ → Option MasterKey
 unwrapped m u s = if is_set m s then master_in u (deciphered_slot (slot_bytes m s) u m.keylen) else None
 
--- the same with the slot's number
+-- a master key with the number of its slot, if there is one
 abbrev pub numbered : Option MasterKey → ℕ → Option (MasterKey × ℕ)
 numbered None s = None
 numbered (Some master) s = Some (master, s)
 
--- the first slot that opens
+-- the master key and the number of the first slot that opens
 abbrev pub unwrapped_any : Metadata → List ℕ → Option (MasterKey × ℕ)
 unwrapped_any m u = option_or (numbered (unwrapped m u 0) 0) (numbered (unwrapped m u 1) 1)
 

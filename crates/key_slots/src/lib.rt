@@ -1,7 +1,6 @@
 //! The two slots of a GELI provider's metadata, each with the master key wrapped by a user key (g_eli.h).
 //!
-//! A slot has 192 bytes: the master key and a code that proves it, enciphered by AES-CBC. No call takes
-//! memory.
+//! A slot has 192 bytes: the master key and a code that proves it, enciphered by AES-CBC. No call allocates memory.
 #![tactic(auto)]
 
 mod opening;

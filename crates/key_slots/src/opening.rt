@@ -40,7 +40,7 @@ fn has_code(text: &[u8; SLOT_SIZE], key: &UserKey) -> bool
     &text[128..] == check_code(key, &text[..128]).as_slice()
 }
 
-// The master key in a slot's text, if the code behind it is right.
+// The master key in a slot's text, if the code after it is right.
 fn master_in(text: &[u8; SLOT_SIZE], key: &UserKey) -> Option<MasterKey>
     ensures { result ≡ master_in key.now.bytes text.now }
 {
@@ -52,8 +52,8 @@ fn master_in(text: &[u8; SLOT_SIZE], key: &UserKey) -> Option<MasterKey>
     Some(MasterKey { bytes })
 }
 
-/// The master key to which a slot opens with this user key: None exactly where the slot's bit is clear or
-/// the code in the slot doesn't match.
+/// The master key to which a slot opens with this user key: `None` exactly if the slot's bit is clear or the code in
+/// the slot doesn't match.
 pub fn unwrap(meta: &Metadata, key: &UserKey, slot: u8) -> Option<MasterKey>
     requires slot { slot < 2 }
     requires keylen { IsKeyBits meta.now.keylen }
@@ -67,7 +67,7 @@ pub fn unwrap(meta: &Metadata, key: &UserKey, slot: u8) -> Option<MasterKey>
     }
 }
 
-// The same with the slot's number.
+// The master key to which a slot opens with this user key, and the slot's number.
 fn unwrap_numbered(meta: &Metadata, key: &UserKey, slot: u8) -> Option<(MasterKey, u8)>
     requires slot { slot < 2 }
     requires keylen { IsKeyBits meta.now.keylen }
@@ -78,8 +78,8 @@ fn unwrap_numbered(meta: &Metadata, key: &UserKey, slot: u8) -> Option<(MasterKe
     Some((master, slot))
 }
 
-/// The master key and the number of the first slot that opens with this user key: slot 0 before slot 1. None exactly
-/// where neither opens.
+/// The master key and the number of the first slot that opens with this user key: slot 0 before slot 1. `None` exactly
+/// if neither opens.
 pub fn unwrap_any(meta: &Metadata, key: &UserKey) -> Option<(MasterKey, u8)>
     requires { IsKeyBits meta.now.keylen }
     ensures answer { result ≡ unwrapped_any meta.now key.now.bytes }

@@ -16,8 +16,8 @@ fn put_bytes(mkeys: &mut [u8; 384], slot: u8, bytes: &[u8; SLOT_SIZE])
 
 /// Puts a wrapped master key into a slot and sets its bit. All else stays.
 ///
-/// Where the bytes were wrapped for the metadata's key length, the slot then opens with that user key to
-/// that master key. Each user key opens the other slot to the same master key as before, or to none as before.
+/// If the bytes are a master key that was wrapped for the metadata's key length, the slot then opens with that user key
+/// to that master key. Each user key opens the other slot to the same master key as before, or to none as before.
 pub fn put_slot(meta: &mut Metadata, slot: u8, wrapped: &[u8; 192])
     requires { slot < 2 }
     ensures put { meta.new ≡ with_slot meta.old slot wrapped.now }

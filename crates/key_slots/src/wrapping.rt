@@ -9,10 +9,10 @@ use eli_metadata::put;
 use hmac_kdf::Hmac512;
 use user_key::UserKey;
 
-/// The bytes of a slot.
+/// The length of a slot in bytes.
 pub const SLOT_SIZE: usize = 192;
 
-/// The initial vector of every slot.
+/// The initial vector with which every slot is enciphered.
 pub const ZERO_VECTOR: [u8; 16] = [0; 16];
 
 // The messages from which a user key's two keys are made.
@@ -20,14 +20,14 @@ const CHECK_KEY: [u8; 1] = [0x00];
 
 const WRAPPING_KEY: [u8; 1] = [0x01];
 
-/// The code behind a master key, which proves that it was wrapped by this user key.
+/// The code after a master key, which proves that it was wrapped by this user key.
 pub fn check_code(key: &UserKey, master: &[u8]) -> [u8; 64]
     ensures { result ≡ check_code key.now.bytes master.now }
 {
     Hmac512::code_of(&Hmac512::code_of(&key.bytes, &CHECK_KEY), master)
 }
 
-/// The key that enciphers a slot's text, expanded.
+/// The key schedule under which a slot's text is enciphered, for a key of `keylen` bits.
 pub fn wrapping_schedule(key: &UserKey, keylen: u16) -> Schedule
     requires { IsKeyBits keylen }
     ensures { result ≡ wrapping_key key.now.bytes keylen }
@@ -36,7 +36,7 @@ pub fn wrapping_schedule(key: &UserKey, keylen: u16) -> Schedule
     Schedule::new(&code[..usize::from(keylen) / 8]).unwrap()
 }
 
-// The plain text of a slot.
+// The plaintext of a slot: the master key and its code.
 fn text_of(master: &MasterKey, key: &UserKey) -> [u8; SLOT_SIZE]
     ensures { result ≡ slot_text key.now.bytes master.now.bytes }
 {
@@ -46,7 +46,7 @@ fn text_of(master: &MasterKey, key: &UserKey) -> [u8; SLOT_SIZE]
     text
 }
 
-/// The bytes of a slot: the master key and its code, by AES-CBC with a key of `keylen` bits that is made
+/// The bytes of a slot: the master key and its code, enciphered by AES-CBC with a key of `keylen` bits that is made
 /// from the user key.
 ///
 /// The slot deciphers to the master key and its code again.

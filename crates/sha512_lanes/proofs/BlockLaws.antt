@@ -54,18 +54,18 @@ masked_key_is pad hash key block long front back =
     ap (masked pad) filled ∙ map-append (bit_xor pad) key (replicate 96 0) ∙ ap (λ (l : List ℕ). map (bit_xor pad) key ++ l) zeros in
     sym (take-append-drop 32 block) ∙ rw (front, back) (sym whole)
 
--- the padding's first bytes, behind the bytes of a message that stands behind a block
+-- the padding's first bytes, after the bytes of a message that follows a block
 padding_first : (n used field z : ℕ) → used ≡ n % 128 → field ≡ last_blocks_size n - 16 → z ≡ (239 - (128 + n) % 128) % 128
     → take {A = ℕ} (field - used) (0x80 ∷ replicate 127 0) ≡ 0x80 ∷ replicate z 0
 padding_first n used field z eu ef ez =
     let e : field - used ≡ z + 1 = omega arith in
     rw e (padding-take 0x80 0 z (omega arith))
 
--- the last blocks of a message m that stands behind a block
+-- the last blocks of a message m that follows a block
 abbrev pub IsTail : List ℕ → List ℕ → Type 0
 IsTail t m = take (last_blocks_size (length m)) t ≡ drop (length m / 128 * 128) m ++ padding (128 + length m)
 
--- they are put together from the message's last bytes, the first bytes of the padding and the length in bits
+-- the last blocks are put together from the message's last bytes, the first bytes of the padding and the length in bits
 pub tail_is : (m t0 t1 t2 t3 front zeros bits : List ℕ) (used field : ℕ) → used ≡ length m % 128 → field ≡ last_blocks_size (length m) - 16
     → take (0 + length front) t1 ≡ take 0 t0 ++ front → front ≡ drop (length m - used) m
     → take (used + length zeros) t2 ≡ take used t1 ++ zeros → zeros ≡ take {A = ℕ} (field - used) (0x80 ∷ replicate 127 0)

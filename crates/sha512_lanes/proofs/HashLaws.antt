@@ -1,4 +1,4 @@
--- The hash of a message behind a block of 128 bytes, block by block.
+-- The hash of a message after a block of 128 bytes, block by block.
 use Rattle.std.proofs.Common.{◌≡◌, ℕ, ◌+◌, ◌*◌, ◌/◌, ◌≤◌, List, ◌++◌, length, take, drop, append_assoc, arith, length-append, length-drop, refl, sym, ap, ◌∙◌}
 use Rattle.std.proofs.lemmas.List.{drop-append-le, drop-drop, length-take-le, take-append-le, take-take, take_all}
 use Rattle.std.proofs.Math.Seq.{drop-append-add}
@@ -8,7 +8,7 @@ use Rattle.sha512_lanes.specs.Hashes.{first_bytes}
 use Rattle.sha512_lanes.specs.Tails.{last_blocks_size}
 use Rattle.sha512_lanes.proofs.BlockLaws.{IsTail}
 
--- the message and its padding, behind a block
+-- the message and its padding, after a block
 abbrev rest : List ℕ → List ℕ
 rest m = m ++ padding (128 + length m)
 
@@ -17,7 +17,7 @@ padded_is before m long =
     let n : length (before ++ m) ≡ 128 + length m = length-append before m ∙ ap (λ (k : ℕ). k + length m) long in
     rw (n, append_assoc) refl
 
--- v is the hash value after the block and i blocks of what is behind it
+-- v is the hash value after the block and i more blocks
 pub record IsAfter (h before m v : List ℕ) (i : ℕ) : Type 0 where
   pub after : v ≡ hash_after h (before ++ rest m) (i + 1)
 
@@ -27,7 +27,7 @@ after_first h before m v long e =
     let block : take 128 (before ++ rest m) ≡ before = take-append-le 128 before (rest m) (omega arith) ∙ take_all 128 before (omega arith) in
     record { after = e ∙ sym (hash_after_next h (before ++ rest m) 0 ∙ ap (compress h) block) }
 
--- one block more
+-- the hash value after one block more
 after_next : (h before m v w block : List ℕ) (i : ℕ) → length before ≡ 128 → IsAfter h before m v i → w ≡ compress v block
     → block ≡ take 128 (drop (i * 128) (rest m)) → IsAfter h before m w (i + 1)
 after_next h before m v w block i long held e eb =
@@ -36,7 +36,7 @@ after_next h before m v w block i long held e eb =
     let at : take 128 (drop ((i + 1) * 128) p) ≡ block = rw (place, drop-append-add before (rest m) (i * 128)) (sym eb) in
     record { after = e ∙ rw (held.after, ← at) (sym (hash_after_next h p (i + 1))) }
 
--- a whole block of the message
+-- the hash value after a whole block of the message
 pub after_whole : (h before m v w : List ℕ) (i : ℕ) → length before ≡ 128 → IsAfter h before m v i → 128 * i + 128 ≤ length m
     → w ≡ compress v (take 128 (drop (128 * i) m)) → IsAfter h before m w (i + 1)
 after_whole h before m v w i long held fits e =
@@ -45,18 +45,18 @@ after_whole h before m v w i long held fits e =
     after_next h before m v w _ i long held e
     (rw (place, drop-append-le (128 * i) m pad (omega arith)) (sym (take-append-le 128 (drop (128 * i) m) pad (omega (arith, length-drop (128 * i) m)))))
 
--- what is behind the whole blocks
+-- what remains after the whole blocks
 tail_at : (m t : List ℕ) → IsTail t m → drop (length m / 128 * 128) (rest m) ≡ take (last_blocks_size (length m)) t
 tail_at m t held = drop-append-le (length m / 128 * 128) m (padding (128 + length m)) (omega arith) ∙ sym held
 
--- the first of the last blocks
+-- the hash value after the first of the last blocks
 pub after_tail : (h before m t v w : List ℕ) → length before ≡ 128 → length t ≡ 256 → IsTail t m → IsAfter h before m v (length m / 128)
     → w ≡ compress v (take 128 (drop 0 t)) → IsAfter h before m w (length m / 128 + 1)
 after_tail h before m t v w long size held before_it e =
     after_next h before m v w _ (length m / 128) long before_it e
     (rw (tail_at m t held) (sym (take-take 128 (last_blocks_size (length m)) t (omega arith))))
 
--- the second of them
+-- the hash value after the second of the last blocks
 pub after_second : (h before m t v w : List ℕ) → length before ≡ 128 → length t ≡ 256 → IsTail t m → last_blocks_size (length m) ≡ 256
     → IsAfter h before m v (length m / 128 + 1) → w ≡ compress v (take 128 (drop 128 t)) → IsAfter h before m w (length m / 128 + 2)
 after_second h before m t v w long size held two before_it e =
@@ -67,7 +67,7 @@ after_second h before m t v w long size held two before_it e =
     let end : q + 1 + 1 ≡ q + 2 = omega arith in
     rw end at (after_next h before m v w _ (q + 1) long before_it e block)
 
--- after the last of them
+-- the hash value after all of the last blocks
 pub after_all : (h before m t v : List ℕ) (i : ℕ) → length before ≡ 128 → length t ≡ 256 → IsTail t m → i * 128 ≡ length m / 128 * 128 + last_blocks_size (length m)
     → IsAfter h before m v i → v ≡ final_hash h (before ++ m)
 after_all h before m t v i long size held end at =
@@ -87,7 +87,7 @@ pub all_bytes : (h : List ℕ) → take 64 (digest_bytes h 8) ≡ digest_bytes h
 unfolding digest_bytes
 all_bytes h = refl
 
--- as many bytes as were wanted of it
+-- the first n bytes of a hash value are n bytes
 pub length_first_bytes : (n : ℕ) (h m : List ℕ) → n ≤ 64 → length (first_bytes n h m) ≡ n
 length_first_bytes n h m few =
     let whole : length (digest_bytes (final_hash h m) 8) ≡ 64 = length_digest (final_hash h m) in

@@ -15,8 +15,8 @@ const PADDING: [u8; 128] = [
     0,
 ];
 
-/// The key's block (RFC 2104, section 2) with `pad` added to each of its bytes, bit by bit. It is the same whatever the
-/// hash is, since the key is shorter than a block.
+/// The key's block (RFC 2104, section 2) with `pad` added to each of its bytes, bit by bit. The key is shorter than a
+/// block, so it isn't hashed first, and the block is the same for SHA-384 and SHA-512.
 pub fn masked_key(key: &[u8; 32], pad: u8) -> [u8; 128]
     ensures { (hash : List ℕ → List ℕ) → result ≡ masked pad (key_block hash 128 key.now) }
 {
@@ -27,8 +27,8 @@ pub fn masked_key(key: &[u8; 32], pad: u8) -> [u8; 128]
     block
 }
 
-/// How many bytes there are from the last whole block of a message to the end of its padding: two blocks where the
-/// length field has no room in the first.
+/// How many bytes there are from the last whole block of a message to the end of its padding: 128, or 256 if the length
+/// field has no room in the first block (FIPS 180-4, 5.1.2).
 pub fn last_blocks_size(length: usize) -> usize
     ensures { result ≡ last_blocks_size length }
 {
@@ -43,7 +43,8 @@ fn put(tail: &mut [u8; 256], at: usize, bytes: &[u8])
     tail[at..at + bytes.len()].copy_from_slice(bytes);
 }
 
-// The last blocks of a message behind a block of 128 bytes: what is behind the message's whole blocks, and the padding.
+// The last blocks of a message that follows a block of 128 bytes: what remains after the message's whole blocks, and
+// the padding.
 fn tail_of(message: &[u8]) -> [u8; 256]
     ensures { take (last_blocks_size (length message.now)) result
         ≡ drop (length message.now / 128 * 128) message.now ++ padding (128 + length message.now) }
@@ -58,7 +59,7 @@ fn tail_of(message: &[u8]) -> [u8; 256]
     tail
 }
 
-/// The last blocks of four messages, each of which stands behind a block of 128 bytes.
+/// The last blocks of four messages, each of which follows a block of 128 bytes.
 pub fn tails_of(messages: [&[u8]; 4]) -> [[u8; 256]; 4]
     ensures long { (j : ℕ) → j < 4 → length (slice_index_or result j []) ≡ 256 }
     ensures tails { (j : ℕ) → j < 4

@@ -24,7 +24,7 @@ pub const INITIAL_HASH_512: [u64; 8] = [
     0x5be0_cd19_137e_2179,
 ];
 
-/// K 0, …, K 79 (4.2.3).
+/// The round constants K 0, …, K 79 (4.2.3).
 pub const ROUND_CONSTANTS: [u64; 80] = [
     0x428a_2f98_d728_ae22,
     0x7137_4491_23ef_65cd,

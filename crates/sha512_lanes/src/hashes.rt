@@ -1,4 +1,4 @@
-//! The hashes of four messages of one length (FIPS 180-4, 6.4 and 6.5), each behind a block of 128 bytes.
+//! The hashes of four messages of one length (FIPS 180-4, 6.4 and 6.5), each after a block of 128 bytes.
 
 ghost use Rattle.std.specs.Prelude.{◌≡◌, ◌+◌, ◌<◌, ◌≤◌, ◌++◌, ℕ, List, [], drop, length, slice_index, slice_index_or, take};
 ghost use Rattle.sha2.specs.Sha512.{compress, digest_bytes, final_hash};
@@ -24,7 +24,7 @@ pub fn initial_states(initial: &[u64; 8]) -> [u64x4; 8]
     ]
 }
 
-// The states after one of the last blocks, that at byte `at`.
+// The hash values after one of the last blocks, the one at byte `at`.
 fn compress_tails(state: [u64x4; 8], tails: &[[u8; 256]; 4], at: usize) -> [u64x4; 8]
     requires { at + 128 ≤ 256 }
     ensures { (j : ℕ) → j < 4 → lane j result
@@ -33,8 +33,8 @@ fn compress_tails(state: [u64x4; 8], tails: &[[u8; 256]; 4], at: usize) -> [u64x
     compress(state, [&tails[0], &tails[1], &tails[2], &tails[3]], at)
 }
 
-/// The final hash values of four messages of one length, where each lane of `state` has taken in the block of 128 bytes
-/// that stands before its message.
+/// The final hash values of four messages of one length. Each lane of `state` is the hash value after the block of 128
+/// bytes that stands before its message.
 pub fn finished(state: [u64x4; 8], messages: [&[u8]; 4]) -> [u64x4; 8]
     requires { HaveOneLength messages }
     ensures { (j : ℕ) → j < 4 → (h before : List ℕ) → length before ≡ 128 → lane j state ≡ compress h before
@@ -93,7 +93,7 @@ fn digest<const N: usize>(h: [u64; 8]) -> [u8; N]
     out
 }
 
-/// The digests that these hash values are.
+/// The digests that these hash values are: their first `N` bytes.
 pub fn digests<const N: usize>(state: &[u64x4; 8]) -> [[u8; N]; 4]
     requires { N ≤ 64 }
     ensures { (j : ℕ) → j < 4 → slice_index_or result j [] ≡ take N (digest_bytes (lane j state.now) 8) }

@@ -1,7 +1,7 @@
 //! HMAC-SHA-384 and HMAC-SHA-512 (RFC 2104, FIPS 180-4) of four messages of one length side by side, in the lanes of
 //! vectors.
 //!
-//! Each word of the hash is a vector with one lane for each message. No call takes memory.
+//! Each word of the hash is a vector with one lane for each message. No call allocates memory.
 #![tactic(auto)]
 
 ghost use Rattle.std.specs.Prelude.{◌≡◌, ◌<◌, ◌≤◌, ◌++◌, ℕ, [], length, slice_index_or};
@@ -26,7 +26,7 @@ const INNER_PAD: u8 = 0x36;
 // The byte opad, which is added to the key's block before the inner hash is hashed.
 const OUTER_PAD: u8 = 0x5c;
 
-// The hashes of the four messages, each behind the block of its key with `pad` added.
+// The hashes of the four messages, each after the block of its key with `pad` added.
 fn hashes_under<const N: usize>(
     initial: &[u64; 8],
     keys: &[[u8; 32]; 4],

@@ -1,4 +1,4 @@
--- The hash of a message behind a block of 64 bytes, block by block.
+-- The hash of a message after a block of 64 bytes, block by block.
 use Rattle.std.proofs.Common.{◌≡◌, ℕ, ◌+◌, ◌*◌, ◌/◌, ◌≤◌, List, ◌++◌, length, take, drop, append_assoc, arith, length-append, length-drop, refl, sym, ap, ◌∙◌}
 use Rattle.std.proofs.lemmas.List.{drop-append-le, drop-drop, length-take-le, take-append-le, take-take, take_all}
 use Rattle.std.proofs.Math.Seq.{drop-append-add}
@@ -7,7 +7,7 @@ use Rattle.sha2.proofs.Absorbing256.{hash_after_next}
 use Rattle.sha_lanes.specs.Tails.{tail_size}
 use Rattle.sha_lanes.proofs.BlockLaws.{IsTail}
 
--- the message and its padding, behind a block
+-- the message and its padding, after a block
 abbrev rest : List ℕ → List ℕ
 rest m = m ++ padding (64 + length m)
 
@@ -16,7 +16,7 @@ padded_is before m long =
     let n : length (before ++ m) ≡ 64 + length m = length-append before m ∙ ap (λ (k : ℕ). k + length m) long in
     rw (n, append_assoc) refl
 
--- v is the hash value after the block and i blocks of what is behind it
+-- v is the hash value after the block and i more blocks
 pub record IsAfter (h before m v : List ℕ) (i : ℕ) : Type 0 where
   pub after : v ≡ hash_after h (before ++ rest m) (i + 1)
 
@@ -26,7 +26,7 @@ after_first h before m v long e =
     let block : take 64 (before ++ rest m) ≡ before = take-append-le 64 before (rest m) (omega arith) ∙ take_all 64 before (omega arith) in
     record { after = e ∙ sym (hash_after_next h (before ++ rest m) 0 ∙ ap (compress h) block) }
 
--- one block more
+-- the hash value after one block more
 after_next : (h before m v w block : List ℕ) (i : ℕ) → length before ≡ 64 → IsAfter h before m v i → w ≡ compress v block
     → block ≡ take 64 (drop (i * 64) (rest m)) → IsAfter h before m w (i + 1)
 after_next h before m v w block i long held e eb =
@@ -35,7 +35,7 @@ after_next h before m v w block i long held e eb =
     let at : take 64 (drop ((i + 1) * 64) p) ≡ block = rw (place, drop-append-add before (rest m) (i * 64)) (sym eb) in
     record { after = e ∙ rw (held.after, ← at) (sym (hash_after_next h p (i + 1))) }
 
--- a whole block of the message
+-- the hash value after a whole block of the message
 pub after_whole : (h before m v w : List ℕ) (i : ℕ) → length before ≡ 64 → IsAfter h before m v i → 64 * i + 64 ≤ length m
     → w ≡ compress v (take 64 (drop (64 * i) m)) → IsAfter h before m w (i + 1)
 after_whole h before m v w i long held fits e =
@@ -44,18 +44,18 @@ after_whole h before m v w i long held fits e =
     after_next h before m v w _ i long held e
     (rw (place, drop-append-le (64 * i) m pad (omega arith)) (sym (take-append-le 64 (drop (64 * i) m) pad (omega (arith, length-drop (64 * i) m)))))
 
--- what is behind the whole blocks
+-- what remains after the whole blocks
 tail_at : (m t : List ℕ) → IsTail t m → drop (length m / 64 * 64) (rest m) ≡ take (tail_size (length m)) t
 tail_at m t held = drop-append-le (length m / 64 * 64) m (padding (64 + length m)) (omega arith) ∙ sym held
 
--- the first of the last blocks
+-- the hash value after the first of the last blocks
 pub after_tail : (h before m t v w : List ℕ) → length before ≡ 64 → length t ≡ 128 → IsTail t m → IsAfter h before m v (length m / 64)
     → w ≡ compress v (take 64 (drop 0 t)) → IsAfter h before m w (length m / 64 + 1)
 after_tail h before m t v w long size held before_it e =
     after_next h before m v w _ (length m / 64) long before_it e
     (rw (tail_at m t held) (sym (take-take 64 (tail_size (length m)) t (omega arith))))
 
--- the second of them
+-- the hash value after the second of the last blocks
 pub after_second : (h before m t v w : List ℕ) → length before ≡ 64 → length t ≡ 128 → IsTail t m → tail_size (length m) ≡ 128
     → IsAfter h before m v (length m / 64 + 1) → w ≡ compress v (take 64 (drop 64 t)) → IsAfter h before m w (length m / 64 + 2)
 after_second h before m t v w long size held two before_it e =
@@ -66,7 +66,7 @@ after_second h before m t v w long size held two before_it e =
     let end : q + 1 + 1 ≡ q + 2 = omega arith in
     rw end at (after_next h before m v w _ (q + 1) long before_it e block)
 
--- after the last of them
+-- the hash value after all of the last blocks
 pub after_all : (h before m t v : List ℕ) (i : ℕ) → length before ≡ 64 → length t ≡ 128 → IsTail t m → i * 64 ≡ length m / 64 * 64 + tail_size (length m)
     → IsAfter h before m v i → v ≡ final_hash h (before ++ m)
 after_all h before m t v i long size held end at =

@@ -19,8 +19,8 @@ pub fn masked_key(key: &[u8; 32], pad: u8) -> [u8; 64]
     block
 }
 
-/// How many bytes there are from the last whole block of a message to the end of its padding: two blocks where the
-/// length field has no room in the first.
+/// How many bytes there are from the last whole block of a message to the end of its padding: 64, or 128 if the length
+/// field has no room in the first block (FIPS 180-4, 5.1.1).
 pub fn tail_size(length: usize) -> usize
     ensures { result ≡ tail_size length }
 {
@@ -35,7 +35,8 @@ fn put(tail: &mut [u8; 128], at: usize, bytes: &[u8])
     tail[at..at + bytes.len()].copy_from_slice(bytes);
 }
 
-// The last blocks of a message behind a block of 64 bytes: what is behind the message's whole blocks, and the padding.
+// The last blocks of a message that follows a block of 64 bytes: what remains after the message's whole blocks, and the
+// padding.
 fn tail_of(message: &[u8]) -> [u8; 128]
     ensures { take (tail_size (length message.now)) result
         ≡ drop (length message.now / 64 * 64) message.now ++ padding (64 + length message.now) }
@@ -50,7 +51,7 @@ fn tail_of(message: &[u8]) -> [u8; 128]
     tail
 }
 
-/// The last blocks of four messages, each of which stands behind a block of 64 bytes.
+/// The last blocks of four messages, each of which follows a block of 64 bytes.
 pub fn tails_of(messages: [&[u8]; 4]) -> [[u8; 128]; 4]
     ensures long { (j : ℕ) → j < 4 → length (slice_index_or result j []) ≡ 128 }
     ensures tails { (j : ℕ) → j < 4 → take (tail_size (length (bytes_of j messages.entry))) (slice_index_or result j [])

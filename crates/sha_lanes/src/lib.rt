@@ -1,7 +1,7 @@
 //! HMAC-SHA-256 (RFC 2104, FIPS 180-4) of four messages of one length side by side, in the lanes of vectors. Also
-//! SHA-256 of four messages, each behind the same block.
+//! SHA-256 of four messages, each after the same block.
 //!
-//! Each word of the hash is a vector with one lane for each message. No call takes memory.
+//! Each word of the hash is a vector with one lane for each message. No call allocates memory.
 #![tactic(auto)]
 
 ghost use Rattle.std.specs.Prelude.{◌≡◌, ◌<◌, ◌++◌, ℕ, [], length, slice_index_or};
@@ -26,7 +26,7 @@ const INNER_PAD: u8 = 0x36;
 // The byte opad, which is added to the key's block before the inner hash is hashed.
 const OUTER_PAD: u8 = 0x5c;
 
-// The hashes of the four messages, each behind the block of its key with `pad` added.
+// The hashes of the four messages, each after the block of its key with `pad` added.
 fn hashes_under(keys: &[[u8; 32]; 4], pad: u8, messages: [&[u8]; 4]) -> [[u8; 32]; 4]
     requires { HaveOneLength messages }
     ensures { (j : ℕ) → j < 4 → slice_index_or result j []

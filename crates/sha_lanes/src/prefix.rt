@@ -16,7 +16,7 @@ pub struct Prefix {
 }
 
 impl Prefix {
-    /// The hashes that begin with this block.
+    /// Hashes the block with which the four hashes begin.
     pub fn of(block: &[u8; 64]) -> Prefix
         ensures { BeginsWith result block.now }
     {
@@ -26,7 +26,7 @@ impl Prefix {
         }
     }
 
-    /// The digests of the block and of each of four messages of one length behind it.
+    /// The digests of the block followed by each of four messages of one length.
     pub fn digests(&self, messages: [&[u8]; 4]) -> [[u8; 32]; 4]
         requires { HaveOneLength messages }
         ensures { (bytes : List ℕ) → BeginsWith self.now bytes → (j : ℕ) → j < 4

@@ -1,4 +1,4 @@
--- The schedule of a block, four words at a time, and the rounds with them.
+-- The message schedule of a block, four words at a time, and the rounds with them.
 use Rattle.std.proofs.Common.{◌≡◌, ℕ, ◌+◌, ◌-◌, ◌*◌, ◌<◌, ◌≤◌, List, [], ◌∷◌, slice_index, ap, arith, refl, sym, ◌∙◌}
 use Rattle.sha2.specs.Sha256.{add32, round, round_constants, rounds, schedule, small_sigma0, small_sigma1, word_at}
 use Rattle.sha2.proofs.Schedule256.{rounds_next, slice_index-schedule_first, slice_index-schedule_next}
@@ -14,7 +14,7 @@ first_words_at b t x0 x1 x2 x3 room e0 e1 e2 e3 =
     below_four _ (word 0 _ x0 (omega arith) e0 (omega arith)) (word 1 _ x1 (omega arith) e1 (omega arith)) (word 2 _ x2 (omega arith) e2 (omega arith))
     (word 3 _ x3 (omega arith) e3 (omega arith))
 
--- the same words, counted another way
+-- words at a place are also those at a place equal to it
 pub words_at_same : (ws x : List ℕ) (t t' : ℕ) → t ≡ t' → AreWordsAt ws t x → AreWordsAt ws t' x
 words_at_same ws x t t' e are = rw (← e) are
 

@@ -1,4 +1,4 @@
--- Words of the schedule of a block (FIPS 180-4, 6.2.2), four in a vector.
+-- Words of the message schedule of a block (FIPS 180-4, 6.2.2), four in a vector.
 use Rattle.std.specs.Prelude.{◌≡◌, ℕ, ◌+◌, ◌<◌, List, slice_index}
 
 -- the lanes of this vector are word t of the list and the three that follow it

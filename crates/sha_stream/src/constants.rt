@@ -12,7 +12,7 @@ pub const INITIAL_HASH: [u32; 8] = [
     0x5be0_cd19,
 ];
 
-/// K 0, …, K 63 (4.2.2).
+/// The round constants K 0, …, K 63 (4.2.2).
 pub const ROUND_CONSTANTS: [u32; 64] = [
     0x428a_2f98,
     0x7137_4491,

@@ -1,6 +1,7 @@
-//! SHA-256 (FIPS 180-4) of one message that comes in pieces, with its schedule four words at a time, in vectors.
+//! SHA-256 (FIPS 180-4) of one message that comes in pieces, with the message schedule four words at a time, in
+//! vectors.
 //!
-//! The hasher is used as the kit's: by `Digest` of `sha2`. No call takes memory.
+//! The hasher is used like the kit's, through `Digest` of `sha2`. No call allocates memory.
 #![tactic(auto)]
 
 mod blocks;

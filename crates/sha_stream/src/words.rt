@@ -52,7 +52,7 @@ fn sum_shifted(x: u32x4, y: u32x4, k: u32) -> u32x4
     x ^ (y >> u32x4::splat(k))
 }
 
-// The two functions below nest their rotations, which takes fewer copies of `x` than rotating it afresh each time.
+// σ 0. Like σ 1 it nests its rotations, which takes fewer copies of `x` than rotating it afresh each time.
 #[inline(always)]
 pub fn small_sigma0(x: u32x4) -> u32x4
     ensures { (j : ℕ) → j < 4 → slice_index result j ≡ small_sigma0 (slice_index x j) }

@@ -20,12 +20,13 @@ is_missing Without = false
 is_missing Missing = true
 is_missing (Given passphrase) = false
 
--- what stands for a passphrase behind the key files: it is stretched by PBKDF2 where there are iterations, else salted
+-- what stands for a passphrase after the key files: it is stretched by PBKDF2 if there are iterations, else salted
 abbrev pub stretched : List ℕ → List ℕ → ℕ → List ℕ
 stretched passphrase salt iterations =
     (if iterations == 0 then salt ++ passphrase else pbkdf2 passphrase salt iterations)
 
--- the same where there may be no passphrase
+-- what stands after the key files for a passphrase that may be left out: nothing, or the passphrase, stretched or
+-- salted
 abbrev pub passphrase_part : PassPart → List ℕ → ℕ → List ℕ
 passphrase_part Without salt iterations = []
 passphrase_part Missing salt iterations = []

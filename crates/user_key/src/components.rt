@@ -11,7 +11,7 @@ use thiserror::Error;
 pub enum PassPart {
     /// The key is to have no passphrase: `-p` or `-P` was given.
     Without,
-    /// Neither that nor a passphrase file was given.
+    /// Neither `-p`, nor `-P`, nor a passphrase file was given.
     Missing,
     /// The passphrase: the first lines of its files, joined in order. It may be empty.
     Given(ByteList),
@@ -38,10 +38,10 @@ pub struct UserKey {
 /// Why components make no user key.
 #[derive(Clone, Copy, Debug, PartialEq, Eq, Error)]
 pub enum KeyFault {
-    /// A passphrase is given or wanted, and the metadata say that none was set up.
+    /// A passphrase is given or wanted, but the metadata say that none was set up.
     #[error("no passphrase was set up")]
     PassphraseNotSet,
-    /// A passphrase is wanted, and no file gives it.
+    /// A passphrase is wanted, but no file gives it.
     #[error("a passphrase is needed")]
     PassphraseNeeded,
     /// The key is to have no passphrase, and no key file was given.

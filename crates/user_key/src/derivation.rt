@@ -7,7 +7,7 @@ ghost use Rattle.user_key.specs.Derivation.{user_key};
 use crate::components::{Components, KeyFault, PassPart, UserKey};
 use hmac_kdf::{Hmac512, pbkdf2_sha512};
 
-// The key of these bytes: HMAC-SHA-512 with an empty key of the three, one behind the other.
+// The user key of these bytes: HMAC-SHA-512, with an empty key, of the three one after the other.
 fn key_of(keyfiles: &[u8], front: &[u8], back: &[u8]) -> UserKey
     ensures { result.bytes ≡ hmac512 [] (keyfiles.now ++ front.now ++ back.now) }
 {
@@ -22,10 +22,9 @@ fn key_of(keyfiles: &[u8], front: &[u8], back: &[u8]) -> UserKey
 
 /// Why these components make no user key under these iterations, whatever the salt is.
 ///
-/// Iterations below 0 say that no passphrase was set up, 0 that it is salted and not stretched. In this
-/// order components are refused as `PassphraseNotSet` where the iterations are below 0 and the passphrase
-/// isn't `Without`, as `PassphraseNeeded` where it is `Missing`, and as `NoKeyComponents` where it is
-/// `Without` and there is no key file.
+/// Iterations below 0 say that no passphrase was set up, 0 that it is salted and not stretched. Components are refused,
+/// in this order: as `PassphraseNotSet` if the iterations are below 0 and the passphrase isn't `Without`; as
+/// `PassphraseNeeded` if it is `Missing`; as `NoKeyComponents` if it is `Without` and there is no key file.
 pub fn refusal(parts: &Components, iterations: i32) -> Option<KeyFault>
     ensures { (salt : List ℕ) → result ≡ result_err (user_key parts.now salt iterations) }
 {
@@ -38,8 +37,8 @@ pub fn refusal(parts: &Components, iterations: i32) -> Option<KeyFault>
     }
 }
 
-/// The user key that these components make under the salt and the iterations of a provider's metadata, or
-/// what `refusal` says of them.
+/// The user key of 64 bytes that these components make under the salt and the iterations of a provider's metadata, or
+/// the fault that `refusal` reports for them.
 pub fn derive(parts: &Components, salt: &[u8; 64], iterations: i32) -> Result<UserKey, KeyFault>
     ensures { result ≡ user_key parts.now salt.now iterations }
 {

@@ -10,8 +10,7 @@ fn newline_place(file: &[u8]) -> Option<usize>
     file.iter().position(|byte| *byte == b'\n')
 }
 
-/// The bytes of a file before its first newline, or all of them where it has none. A zero byte is an
-/// ordinary byte.
+/// The bytes of a file before its first newline, or all of them if it has none. A zero byte is an ordinary byte.
 pub fn first_line(file: &[u8]) -> &[u8]
     ensures { result.now ≡ first_line file.now }
 {

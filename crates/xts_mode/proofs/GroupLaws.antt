@@ -78,7 +78,7 @@ wide_masked f q m p r s out old t masks load ep ef es eo n ln =
     subst (λ (b : ℕ). block out b ≡ tweaked_block f t old b) at
     (eo i li j lj ∙ summed_at (side i r) (side i m) (side i s) (es i li) j lj ∙ (λ k. xor (inner k) (masks i li j lj k)))
 
--- blocks in a group of so many bytes, with other bytes behind them
+-- blocks in a group, with other bytes after them
 pub rest_masked : (f : List ℕ → List ℕ) (rest behind group sealed out : List ℕ) (t j m : ℕ) → group ≡ rest ++ behind → out ≡ take (length rest) sealed
     → ((j : ℕ) → j < m → block sealed j ≡ tweaked_block f t group j) → length rest ≤ 16 * m → 16 * j + 16 ≤ length rest → block out j ≡ tweaked_block f t rest j
 rest_masked f rest behind group sealed out t j m eg eo es few le =
@@ -87,7 +87,7 @@ rest_masked f rest behind group sealed out t j m eg eo es few le =
     ap (λ (l : List ℕ). block l j) eo ∙ block-take sealed j (length rest) le ∙ es j (omega arith)
     ∙ tweaked_block-part f rest group t t 0 j (sym (tweak_start t)) (same ∙ sym (ap (block rest) none)) ∙ ap (tweaked_block f t rest) none
 
--- m blocks of a data unit, behind j
+-- m blocks of a data unit, from block j on
 pub part_same : (f : List ℕ → List ℕ) (p now ys : List ℕ) (t tweak s k j m : ℕ) → tweak ≡ tweak_at t j → IsDone (tweaked_block f t p) p now j → s ≡ 16 * j → k ≡ 16 * m
     → ((i : ℕ) → i < m → block ys i ≡ tweaked_block f tweak (take k (drop s now)) i) → (i : ℕ) → i < m → block ys i ≡ tweaked_block f t p (j + i)
 part_same f p now ys t tweak s k j m et done es ek new i li =

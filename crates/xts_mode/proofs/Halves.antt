@@ -49,7 +49,7 @@ doubled_list (lo ∷ []) l f = absurd (omega (arith, l))
 doubled_list (lo ∷ hi ∷ []) l f = doubled_halves lo hi f.0.fits f.1.0.fits
 doubled_list (lo ∷ hi ∷ x ∷ xs) l f = absurd (omega (arith, l))
 
--- ---- its bytes
+-- ---- the bytes of a tweak
 
 -- the digits of a number in base 256 are its bytes
 pub digits_are_bytes : (n : ℕ) → digits_l (2 ^ 8) 16 n ≡ to_le_bytes w128 n

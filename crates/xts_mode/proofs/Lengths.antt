@@ -22,7 +22,7 @@ pub length-xts_open : (key1 key2 : List ℕ) (unit : ℕ) (p : List ℕ) → IsK
 length-xts_open key1 key2 unit p long whole =
     length-as_blocks (tweaked_block (decrypt key1) (first_tweak key2 unit) p) p (λ j lt. length-masked (decrypt key1) (first_tweak key2 unit) p j (λ b. length-decrypt key1 b long)) whole
 
--- block j of a text is made of block j of the other alone
+-- block j of one text depends on block j of the other alone
 pub block-xts_seal : (key1 key2 : List ℕ) (unit j : ℕ) (p : List ℕ) → IsKeyLength (length key1) → 16 * j + 16 ≤ length p
     → block (xts_seal key1 key2 unit p) j ≡ tweaked_block (encrypt key1) (first_tweak key2 unit) p j
 block-xts_seal key1 key2 unit j p long fits =

@@ -21,10 +21,10 @@ first_tweak key2 unit = from_le_bytes w128 (encrypt key2 (to_le_bytes w64 unit +
 abbrev pub tweaked_block : (List ℕ → List ℕ) → ℕ → List ℕ → ℕ → List ℕ
 tweaked_block f t p j = let mask = to_le_bytes w128 (tweak_at t j) in xor (f (xor (block p j) mask)) mask
 
--- the cipher text of p, under the key of the data and that of the tweak (5.3)
+-- the ciphertext of p, under the key of the data and that of the tweak (5.3)
 abbrev pub xts_seal : List ℕ → List ℕ → ℕ → List ℕ → List ℕ
 xts_seal key1 key2 unit p = blocks (tweaked_block (encrypt key1) (first_tweak key2 unit) p) (length p / 16)
 
--- the plain text of c (5.4)
+-- the plaintext of c, under the key of the data and that of the tweak (5.4)
 abbrev pub xts_open : List ℕ → List ℕ → ℕ → List ℕ → List ℕ
 xts_open key1 key2 unit c = blocks (tweaked_block (decrypt key1) (first_tweak key2 unit) c) (length c / 16)

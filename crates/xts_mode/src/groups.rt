@@ -17,7 +17,7 @@ use aes_planes::{
 };
 use std::simd::prelude::*;
 
-/// Which of the two is done: AES is enciphered between the tweaks (5.3), or deciphered (5.4).
+/// What AES does to a block between its two sums with the tweak: it enciphers (5.3), or deciphers (5.4).
 #[derive(Clone, Copy)]
 pub enum Way {
     Seal,
@@ -73,8 +73,7 @@ fn ciphered(way: Way, k1: &SlicedSchedule, q: Planes) -> Planes
     }
 }
 
-// Seals or opens eight blocks in place, the first of which has this tweak. The answer is the tweak of the block after
-// them.
+// Seals or opens eight blocks in place, the first of which has this tweak. Returns the tweak of the block after them.
 #[inline(never)]
 fn cipher_group(way: Way, k1: &SlicedSchedule, t: u64x2, group: &mut [u8]) -> u64x2
     requires eight { length group.old ≡ 128 }
@@ -183,7 +182,7 @@ fn cipher_wide(way: Way, k1: &SlicedSchedule, t: u64x2, group: &mut [u8]) -> u64
     tweaks.next
 }
 
-// Seals or opens sixteen blocks in place, eight after eight.
+// Seals or opens sixteen blocks in place, first eight and then the other eight.
 fn cipher_twice(way: Way, k1: &SlicedSchedule, t: u64x2, group: &mut [u8]) -> u64x2
     requires sixteen { length group.old ≡ 256 }
     requires long { length t ≡ 2 }
@@ -198,8 +197,7 @@ fn cipher_twice(way: Way, k1: &SlicedSchedule, t: u64x2, group: &mut [u8]) -> u6
     now
 }
 
-// Seals or opens sixteen blocks in place, the first of which has this tweak. The answer is the tweak of the block
-// after them.
+// Seals or opens sixteen blocks in place, the first of which has this tweak. Returns the tweak of the block after them.
 fn cipher_sixteen(way: Way, k1: &SlicedSchedule, t: u64x2, group: &mut [u8]) -> u64x2
     requires sixteen { length group.old ≡ 256 }
     requires long { length t ≡ 2 }

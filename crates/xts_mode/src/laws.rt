@@ -14,7 +14,8 @@ pub fn xts_keeps_lengths()
         length (xts_open key1 key2 unit cipher) ≡ length cipher }
 {}
 
-/// A law: block j of what is sealed or opened is made of block j of what was given alone, by its number.
+/// A law: for given keys and data unit, block j of what is sealed or opened depends only on j and on block j of what
+/// was given.
 pub fn xts_goes_block_by_block()
     ensures sealed { (key1 key2 : List ℕ) (unit j : ℕ) (plain : List ℕ) → IsKeyLength (length key1) → 16 * j + 16 ≤ length plain →
         block (xts_seal key1 key2 unit plain) j ≡ tweaked_block (encrypt key1) (first_tweak key2 unit) plain j }

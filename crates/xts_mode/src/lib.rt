@@ -15,10 +15,10 @@ use aes_planes::SlicedSchedule;
 use groups::{Way, cipher_unit};
 pub use laws::{xts_goes_block_by_block, xts_keeps_lengths};
 
-/// Enciphers the whole blocks of one data unit in place (IEEE 1619, 5.3): `k1` is the key of the
-/// data, `k2` that of the tweak, and `tweak` the number of the data unit. `xts_open` takes it back.
+/// Enciphers one data unit of whole 16-byte blocks in place (IEEE 1619, 5.3): `k1` is the key of the data, `k2` that of
+/// the tweak, and `tweak` the number of the data unit. `xts_open` takes it back.
 ///
-/// It makes the bit planes of `k1` each time; `xts_seal_sliced` takes them.
+/// Each call makes the bit planes of `k1`; `xts_seal_sliced` takes them ready made.
 pub fn xts_seal(k1: &Schedule, k2: &Schedule, tweak: u64, block: &mut [u8])
     requires { length block.old % 16 ≡ 0 }
     ensures sealed { block.new ≡ xts_seal k1.now k2.now tweak block.old }
@@ -35,7 +35,8 @@ fn opening_takes_it_back(k1: &SlicedSchedule, k2: &Schedule, tweak: u64, plain: 
     k1.is_of_a_key();
 }
 
-/// As `xts_seal`, under planes of the data's key that were made before.
+/// Enciphers one data unit of whole 16-byte blocks in place (IEEE 1619, 5.3), like `xts_seal`, but with the bit planes
+/// of the data's key ready made.
 pub fn xts_seal_sliced(k1: &SlicedSchedule, k2: &Schedule, tweak: u64, block: &mut [u8])
     requires { length block.old % 16 ≡ 0 }
     ensures sealed { block.new ≡ xts_seal k1.now k2.now tweak block.old }
@@ -45,10 +46,10 @@ pub fn xts_seal_sliced(k1: &SlicedSchedule, k2: &Schedule, tweak: u64, block: &m
     cipher_unit(Way::Seal, k1, k2, tweak, block);
 }
 
-/// Deciphers the whole blocks of one data unit in place (IEEE 1619, 5.4): `k1` is the key of the
-/// data, `k2` that of the tweak, and `tweak` the number of the data unit.
+/// Deciphers one data unit of whole 16-byte blocks in place (IEEE 1619, 5.4): `k1` is the key of the data, `k2` that of
+/// the tweak, and `tweak` the number of the data unit.
 ///
-/// It makes the bit planes of `k1` each time; `xts_open_sliced` takes them.
+/// Each call makes the bit planes of `k1`; `xts_open_sliced` takes them ready made.
 pub fn xts_open(k1: &Schedule, k2: &Schedule, tweak: u64, block: &mut [u8])
     requires { length block.old % 16 ≡ 0 }
     ensures { block.new ≡ xts_open k1.now k2.now tweak block.old }
@@ -56,7 +57,8 @@ pub fn xts_open(k1: &Schedule, k2: &Schedule, tweak: u64, block: &mut [u8])
     xts_open_sliced(&SlicedSchedule::new(k1), k2, tweak, block);
 }
 
-/// As `xts_open`, under planes of the data's key that were made before.
+/// Deciphers one data unit of whole 16-byte blocks in place (IEEE 1619, 5.4), like `xts_open`, but with the bit planes
+/// of the data's key ready made.
 pub fn xts_open_sliced(k1: &SlicedSchedule, k2: &Schedule, tweak: u64, block: &mut [u8])
     requires { length block.old % 16 ≡ 0 }
     ensures { block.new ≡ xts_open k1.now k2.now tweak block.old }

@@ -5,7 +5,7 @@ use Rattle.aes_core.specs.Blocks.{block}
 use Rattle.aes_core.proofs.InPlace.{block-take}
 use Rattle.aes_planes.proofs.groups.wide_vector.Goals as goal
 
--- 32 bytes of so many
+-- the first 32 of n bytes, which are 32
 loaded : (bytes : List ℕ) (at n : ℕ) → n ≡ 32 → take 32 (take n (drop at bytes)) ≡ take 32 (drop at bytes)
 loaded bytes at n e = ap (λ (k : ℕ). take 32 (take k (drop at bytes))) e ∙ take-take 32 32 (drop at bytes) (omega arith)
 

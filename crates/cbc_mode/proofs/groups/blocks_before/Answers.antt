@@ -8,7 +8,7 @@ use Rattle.cbc_mode.proofs.groups.blocks_before.Goals as goal
 pub returns-clause-first : goal.returns-clause-first
 returns-clause-first c = c.chained-8.ensures.first ∙ c.pair.ensures.second
 
--- as eight of them, without the last
+-- what holds of each number below seven
 seven : (P : ℕ → Type 0) → P 0 → P 1 → P 2 → P 3 → P 4 → P 5 → P 6 → (j : ℕ) → j < 7 → P j
 seven P a b c d e f g zero lt = a
 seven P a b c d e f g (suc zero) lt = b

@@ -114,7 +114,7 @@ fn flush<D: Disk>(provider: &mut Provider<D>, request: &Request) -> ReplyError
     }
 }
 
-// The bytes that a request speaks of.
+// The bytes that a request is about.
 fn range_of(request: &Request) -> ByteRange
     ensures { result ≡ range_of request.now }
 {

@@ -45,7 +45,7 @@ const HASHED_ANEW: [(usize, u8); 17] = [
     (4096, 0),
 ];
 
-// Whether a sector is answered so, of which this bit was changed.
+// Whether a sector of which this bit was changed is refused with the number that its range says.
 fn is_answered(sector: &Sector, ranges: &[(usize, u8)], bit: usize) -> bool {
     for (end, number) in ranges {
         if bit < *end {

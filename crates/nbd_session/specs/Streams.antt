@@ -7,7 +7,7 @@ use Rattle.block_traits.specs.Streams.{SinkState, SourceState, TookAll, TookPart
 use Rattle.nbd_session.specs.declared.streams.End.{End}
 use Rattle.nbd_session.specs.declared.streams.End.TheVariants.{Closed, ReadFault, WriteFault, Malformed}
 
--- as many options, and as many requests, as a session takes at most
+-- how many options, and how many requests, a session takes at most
 abbrev pub limit : ℕ
 limit = 2 ^ 64 - 1
 
@@ -16,7 +16,7 @@ pub record SourceGave (bytes : List ℕ) (old new : SourceState) : Type 0 where
   pub left : old.left ≡ prepend_known bytes new.left
   pub later : old.faults ≤ new.faults
 
--- it gave the first of these bytes, and not all
+-- the source gave the first of these bytes, and not all
 pub record GavePart (bytes : List ℕ) (old new : SourceState) : Type 0 where
   pub count : ℕ
   pub within : count < length bytes

@@ -1,4 +1,4 @@
--- What a cabinet tells of what names have.
+-- What a cabinet reports of what names have.
 use Rattle.std.proofs.Common.{◌≡◌, ◌⊎◌, ◌∙◌, inl, inr, ap, refl, subst, sym, List, ℕ, Bool, true, false, cond, ◌==◌, Option, None, Some, Result, Ok, Err}
 use Rattle.std.specs.Bool.{Decides}
 use Rattle.std.specs.IoError.{error_kind}
@@ -149,7 +149,7 @@ none_gives images name limit result (Some names) false same none answered =
     let Q : Result (List ℕ) LoadFault → Type 0 = λ r. Answers (Err load.Absent) r in
     subst P (sym same) (subst Q (sym answered) refl)
 
--- what is loaded is what is told of the name
+-- what is loaded is what is reported of the name
 pub named_gives : {O F : Type 0} (o : opener.Ghosts O F) (f : image_file.Ghosts F) (images : List FileId) (old : O) (name : List ℕ) (limit : ℕ) (result : Result (List ℕ) LoadFault) (new : O)
     → LoadsNamed o f images old name limit result new → LoadGives (told_files images (o.told old)) name limit result
 named_gives o f images old name limit result new loads = by_text (is_utf8 name) refl

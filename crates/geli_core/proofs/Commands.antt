@@ -91,7 +91,7 @@ broke line command old middle new source (Some answer) end failed answered serve
     let here : TookPart (text_of (Some answer)) old.sink new.sink = subst (λ (s : SinkState). TookPart (text_of (Some answer)) old.sink s) (sym same) part in
     one_traced line old middle new source WriteFault answer failed serves closes tt (inl (record { printed = []; last = answer; are = refl; middle = old.sink; before = TookAll-nothing old.sink; part = here }))
 
--- the command was served, and its answer was not printed
+-- the command was served, and its reply was not printed
 pub broke_command : (line : List ℕ) (command : Command) (old middle new : SiteState) (source : SourceState) (end : WriteEnd) (failed : ℕ) → command_in line ≡ Some command
     → ServesAndPrints Zeros line old.world old.sink (Err end) middle.world middle.sink → ClosesWorld middle.world failed new.world → new.sink ≡ middle.sink
     → RunsUnless (Traced (RunsLine line (Some command))) (whole_of old source) WriteFault (whole_of new source)

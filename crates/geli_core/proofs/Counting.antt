@@ -1,4 +1,4 @@
--- The lines that are answered that a disk failed are counted by its faults.
+-- The lines that are answered with a failure of a disk are counted by its faults.
 use Rattle.std.proofs.Common.{◌≡◌, ◌∙◌, ◌⊎◌, inl, inr, ℕ, ◌+◌, ◌-◌, ◌≤◌, zero, suc, List, [], ◌∷◌, refl, ap, sym, subst, arith, Bool, true, false, cond, Option, None, Some, Result, Ok, Err, slice_get, ◌<◌, ◌^◌, ◌&&◌, MatchOption, option_and_then}
 use Rattle.std.specs.List.{AllByRecursion, remove}
 use Rattle.std.specs.Option.{option_map}

@@ -58,7 +58,7 @@ pub record BothLog (events : List Event) (a new_a b new_b : DiskState) : Type 0 
 
 -- ---- writing whole sectors
 
--- these events were logged, and no read was asked for; where there are none, the disk is as it was
+-- these events were logged, and no read was asked for; if there are none, the disk is as it was
 pub record LogsOnly {A : Type 0} (a : A → DiskState) (events : List Event) (old new : A) : Type 0 where
   pub logs : Logs events (a old) (a new)
   pub unasked : (a new).reads ≡ (a old).reads

@@ -1,4 +1,4 @@
-//! Runs of words over files in memory that tell what they hold.
+//! Runs of words over files in memory that report what they hold.
 use crate::mem_files::{Changes, MemFiles, counted, none_seen};
 use crate::mem_folder::MemFolder;
 use crate::seen_disk::Seen;

@@ -92,7 +92,7 @@ module _ {O F : Type 0} (o : opener.Ghosts O F) (f : image_file.Ghosts F) (image
   failed : (answer : Result (List ℕ) LoadFault) → result ≡ Err load.Failed → Answers answer result
   failed answer is = let P : Result (List ℕ) LoadFault → Type 0 = λ r. Answers answer r in subst P (sym is) tt
 
-  -- a file that is no image is none of them by the name under which it is told
+  -- a file that is no image is none of them by the name under which it is reported
   which_bytes : (id : Option FileId) (bytes : List ℕ) (file : F) (found : Result Found Error) → IsThatFile f id file → f.tells file found
       → (IsOneOfImages images found → ⊥) → bytes_beside images (Holds id bytes) ≡ Some bytes
   which_bytes None bytes file found that tells other = refl

@@ -69,7 +69,7 @@ read_as line sector count a old new last from before after tag (Err (reap.Integr
 read_as line sector count a old new last from before after tag (Err reap.NoRequest) same h = absurd h.1
 read_as line sector count a old new last from before after tag (Err (reap.NotDone left)) same h = absurd h.1
 
--- of each job, which is that of the line
+-- a request of each kind of job does what the line does
 does_as : (line : List ℕ) (asked : JobWords) (a : Attachment) (old new : Reach) (last : InFlight) (job : Job) (from before after : List ℕ) (tag : ℕ) (said : Result Reaped ReapFault) → work_in 0 a.keying line asked ≡ work_of 0 job from → last.disk ≡ new.disk
     → DoesAsProvider job from before after said (flight a old.disk) last → DoesAsLine line asked a old (reap_answer tag after said) new
 does_as line (words.Read sector count) a old new last (jobs.Read first many) from before after tag said work same h =

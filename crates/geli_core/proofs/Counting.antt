@@ -308,7 +308,7 @@ line_read (Ok (Some command)) line name None old new n before differ stands foun
 line_read (Ok (Some command)) line name (Some said) old new n before differ stands found h =
     line_placed line name command said old new n before (place_named line command old.drawers) differ stands found refl h (turn_only_steps line command old said new h)
 
--- ---- lines where no drawer has the name
+-- ---- lines when no drawer has the name
 
 unknown_by : (At : World → Answer → World → ℕ → Type 0) (old : World) (said : Answer) (new : World) (place : Option ℕ) → place ≡ None → MatchOption place (IsUnknown old said new) (At old said new)
     → said ≡ answers.Refused refusals.UnknownProvider

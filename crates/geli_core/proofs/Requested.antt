@@ -112,7 +112,7 @@ submit_asks line words.Flush a old answer new keyed h = inr (record { job = jobs
 with_other : (Fresh : Type 0) (c : Content) (m : Play) (k : Keying) (queue more : List Request) (d : DiskState) → more ≡ queue → Tracks Fresh c m k queue d → Tracks Fresh c m k more d
 with_other Fresh c m k queue more d is t = subst (λ (q : List Request). Tracks Fresh c m k q d) (sym is) t
 
--- nothing was done
+-- nothing was done, and the play stays
 still : (Fresh : Type 0) (c : Content) (m : Play) (k : Keying) (queue more : List Request) (d new : DiskState) (events : List Event) → Tracks Fresh c m k queue d → more ≡ queue → new ≡ d → events ≡ [] → Tracks Fresh c (goes_on (raw_steps events) m.tasks m) k more new
 still Fresh c m k queue more d new events t is same none =
     with_other Fresh c (goes_on (raw_steps events) m.tasks m) k queue more new is (tracks_raw Fresh c m k queue d new events t (subst (λ (e : List Event). Logs e d new) (sym none) (rw same (Logs-nothing d))))

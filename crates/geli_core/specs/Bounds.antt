@@ -20,7 +20,7 @@ pub record FailedToo (Behind : ℕ → Type 0) (many : ℕ) (old new : DrawerSta
   pub failed : FailedHeld old new
   pub others : Behind behind
 
--- of these drawers, before and after, so many failed, each counted once
+-- so many of these drawers, before and after, failed, each counted once
 abbrev pub ManyFailed : ℕ → List DrawerState → List DrawerState → Type 0
 ManyFailed many [] [] = many ≡ 0
 ManyFailed many (old ∷ olds) (new ∷ news) = ManyFailed many olds news ⊎ FailedToo (λ behind. ManyFailed behind olds news) many old new

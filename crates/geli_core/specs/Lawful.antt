@@ -14,11 +14,11 @@ use Rattle.geli_core.specs.Vocabulary.{Sep, line_reading}
 use Rattle.geli_core.specs.declared.status.Status.{Status}
 
 -- What holds of each drawer that is there after these lines. `survivors`: it was there at entry and did steps line by
--- line. If power fails at any moment of them, before or within any write of a device sector, each image that is left
--- reads unit by unit from what the lines' writes placed and what was there, if its disk reports its content. A torn or
--- altered image may also read as a named fault, as strange bytes where nothing authenticates them, or as forged ones
--- (docs/THEOREM.md). `suspended`: the disk of a suspended drawer has logged nothing since a line suspended it, or since
--- entry; so no line wrote it, whatever lines named it.
+-- line. If its disk reports its content, and power fails at any moment of them, each image that is left reads unit by
+-- unit from what the lines' writes placed and what was there. The moment may be before or within any write of a device
+-- sector. A torn or altered image may also read as a named fault, as strange bytes where nothing authenticates them, or
+-- as forged ones (docs/THEOREM.md). `suspended`: the disk of a suspended drawer has logged nothing since a line
+-- suspended it, or since entry; so no line wrote it, whatever lines named it.
 pub record DrawersSince (sep : Sep) (entry : World) (served : List ServedLine) (now : World) : Type 0 where
   pub survivors : EachSurvives sep entry served now
   pub suspended : AreSuspended sep entry served now
@@ -43,16 +43,16 @@ pub record LineHolds (sep : Sep) (entry : World) (served : List ServedLine) (sta
 -- lines of them are those of the trace, and what was printed, by the status. `entry`, `lines`, `exit`: what holds of
 -- the drawers at entry, of each line and of the drawers after it, and of the drawers at exit. So at each of these each
 -- drawer has its steps, and what every image of a crash after them reads as, also before a line that takes it away.
--- `counts`: the replies that the cabinet failed, that a file was absent or longer than a file may be, and that the
--- entropy failed are each at most as many as the count of such failures rose by. The lines that name a drawer and are
--- answered that its disk failed, and one more if its closing failed, are at most as many as that disk's count of faults
--- rose by, until the end or until a line took the drawer out. Each refusal of the closing has its drawer. Each of these
--- holds unless the count stands at 2^64 - 1. `sweeps`: a course begins if a `verify -r` on an attached drawer is
--- answered that a part was swept and the cabinet reports its files. The lines after it that are `verify` on this drawer
--- and file then go on where those before them ended. This goes on as long as each finds the drawer under the same
--- keying, none begins anew, and no other line stores the file. Each lists just the units that fail in its sectors, and
--- all together go over each sector before the last place once. If their counts, each cut to the sectors of a part,
--- reach the end, the last place is the end.
+-- `counts`: the replies that the cabinet failed are at most as many as the count of its faults rose by. The replies
+-- that a file was absent, or longer than a file may be, and those that the entropy failed are bounded by their counts
+-- in the same way. The lines that name a drawer and are answered that its disk failed, and one more if its closing
+-- failed, are bounded by that disk's count of faults, until the end or until a line took the drawer out. Each refusal
+-- of the closing has its drawer. Each of these holds unless the count stands at 2^64 - 1. `sweeps`: a course begins if
+-- a `verify -r` on an attached drawer is answered that a part was swept and the cabinet reports its files. The lines
+-- after it that are `verify` on this drawer and file then go on where those before them ended. This goes on as long as
+-- each finds the drawer under the same keying, none begins anew, and no other line stores the file. Each lists just the
+-- units that fail in its sectors, and all together go over each sector before the last place once. If their counts,
+-- each cut to the sectors of a part, reach the end, the last place is the end.
 pub record RunsLawfully (words : List (List ℕ)) (old : Whole) (status : Status) (new : Whole) : Type 0 where
   pub trace : Trace
   pub is_trace : IsTrace old.world trace new.world

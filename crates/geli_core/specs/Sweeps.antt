@@ -36,7 +36,7 @@ pub record HasDrawer (course : Course) (world : World) : Type 0 where
 abbrev pub place_file : Course → World → Option (Option (List ℕ))
 place_file course world = option_map (λ files. files course.file) world.cabinet.files
 
--- ---- its lines
+-- ---- the lines of a course
 
 -- what a `verify` asks for: over how many sectors it goes, and whether it begins anew
 pub record AskedSweep : Type 0 where

@@ -72,7 +72,7 @@ fn flipped(byte: usize, place: u32) -> Sector {
     sector
 }
 
-// A change of the MD5 itself, or of the byte after it, stays where it is.
+// If a bit of the MD5 itself or of the byte after it is changed, no MD5 is made anew.
 #[test]
 fn each_bit_is_refused_by_its_table(rt: HostRuntime) {
     for bit in 0..4096usize {

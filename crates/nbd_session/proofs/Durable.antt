@@ -123,7 +123,7 @@ take-none (suc n) = refl
 fails-none : {d new : DiskState} → FailsIn [] d new → Logs [] d new
 fails-none {d} {new} fails = let none : take fails.count [] ≡ [] = take-none fails.count in subst (λ (e : List Event). Logs e d new) none fails.logs
 
--- ---- by kind
+-- ---- exchanges by their kind
 
 -- the steps of a write fit after others
 write-fits : (n : ℕ) (k : Keying) (x : Exchange) (steps : List Step) (whole : List ℕ) → AreStepsBelow n steps → IsKeying k
@@ -157,7 +157,7 @@ did-read Invalid side n x steps c d told below h = did-still Invalid kinds.Read 
 did-read ReadOnly side n x steps c d told below h = absurd h
 did-read PassesEnd side n x steps c d told below h = absurd h
 
--- the sectors of a write are there, as the content tells
+-- the sectors of a write are there, as the content says
 room-told : (k : Keying) (q : Request) (c : Content) (d : DiskState) → IsKeying k → d.content ≡ Some c → FitsIn k d q
     → first_sector k (range_of q) + sectors_covered k (range_of q) ≤ content_media k c
 room-told k q c d is told inside =

@@ -1,4 +1,4 @@
--- The preferred bytes of a request are a power of two.
+-- The preferred number of bytes of a request is a power of two.
 use Rattle.std.proofs.Common.{◌≡◌, ◌⊎◌, inl, inr, ℕ, ◌^◌, ◌==◌, ◌||◌, List, [], ◌∷◌, Bool, true, false, refl, sym, subst}
 use Rattle.std.proofs.lemmas.Bool.{eqb-true}
 use Rattle.std.specs.Prelude.{max}

@@ -38,7 +38,7 @@ GivesBytes bytes old (Err Closed) new = ⊥
 GivesBytes bytes old (Err ReadFault) new = ⊥
 GivesBytes bytes old (Err Malformed) new = ⊥
 
--- of these texts all but the last were given whole; there the sink failed, and took the first bytes of the last alone
+-- all of these texts but the last were given whole; there the sink failed, and took only the first bytes of the last
 pub record GaveButLast (texts : List (List ℕ)) (old new : SinkState) : Type 0 where
   pub before : List (List ℕ)
   pub last : List ℕ
@@ -54,7 +54,7 @@ GivesTexts Closed texts old new = TookAll (concat texts) old new
 GivesTexts ReadFault texts old new = TookAll (concat texts) old new
 GivesTexts Malformed texts old new = TookAll (concat texts) old new
 
--- these texts were given, and the session goes on, or it ended so
+-- these texts were given, and the session goes on, or it ended as said
 abbrev pub GivesOn : Result (Unit {0}) End → List (List ℕ) → SinkState → SinkState → Type 0
 GivesOn (Ok done) texts old new = TookAll (concat texts) old new
 GivesOn (Err end) texts old new = GivesTexts end texts old new

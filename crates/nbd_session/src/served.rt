@@ -86,7 +86,7 @@ fn serve_flush<D: Disk, K: Sink>(
     (answer(error, request, output), is_error(error))
 }
 
-// Whether an answer is an error.
+// Whether a reply is an error.
 fn is_error(error: ReplyError) -> bool
     ensures { result ≡ is_error error }
 {

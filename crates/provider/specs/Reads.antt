@@ -45,8 +45,8 @@ UnitAnswers k n size old new bytes (Err (OutOfRange sector count media)) = ⊥
 abbrev pub AreAccepted : Keying → Content → ℕ → ℕ → Type 0
 AreAccepted k c sector count = IsOk (joined (take count (units_read k c sector)))
 
--- there is authentication, this unit is the first of the logical sector whose tag differs, it was the last to be
--- read, and nothing was logged
+-- with authentication, this unit is the first of the logical sector whose tag differs; it was the last to be read, and
+-- nothing was logged
 pub record SectorFault (k : Keying) (sector offset : ℕ) (old new : DiskState) : Type 0 where
   pub tagged : k.auth ≢ Off
   pub unit : ℕ
@@ -73,8 +73,8 @@ SectorAnswers k sector old new bytes (Err (OutOfRange first count media)) = ⊥
 
 -- ---- some logical sectors
 
--- there is authentication, a unit of the logical sector after so many is the first of them all whose tag differs, at
--- this byte offset of the device, it was the last to be read, and nothing was logged
+-- with authentication, a unit of the logical sector after so many is the first of them all whose tag differs, at this
+-- byte offset of the device; it was the last to be read, and nothing was logged
 pub record RunFault (k : Keying) (sector count offset : ℕ) (old new : DiskState) : Type 0 where
   pub tagged : k.auth ≢ Off
   pub passed : ℕ

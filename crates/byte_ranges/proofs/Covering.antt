@@ -11,7 +11,7 @@ use Rattle.byte_ranges.specs.Reads.{CannotReadRange, ReadsRange, ReadsWholeSecto
 use Rattle.byte_ranges.specs.declared.cover.Cover.{Cover}
 use Rattle.byte_ranges.specs.declared.ranges.ByteRange.{ByteRange}
 
--- sectors that a range needs are there where the range is
+-- the sectors that a range needs are there if the range is
 few_enough : (o n size there first skip count : ℕ) → first ≡ o / size → skip ≡ o % size → count * size < skip + n + size → o + n ≤ there * size → first + count ≤ there
 few_enough o n size there first skip count first_is skip_is least inside =
     let split : first * size + skip ≡ o = ap (λ (m : ℕ). m * size + skip) first_is ∙ ap (λ (m : ℕ). o / size * size + m) skip_is ∙ div-add-mod' o size in
@@ -32,7 +32,7 @@ covered_inside k d r some inside =
     let split : all / k.sectorsize * k.sectorsize + all % k.sectorsize ≡ all = div-add-mod' all k.sectorsize in
     few_enough r.offset r.count k.sectorsize (media k d) (first_sector k r) (skipped k r) (sectors_covered k r) refl refl (omega (arith, split, some)) inside
 
--- as many bytes as were asked for
+-- reading a range gives as many bytes as were asked for
 as_asked : (k : Keying) (r : ByteRange) (cover : Cover) (bytes : List ℕ) → IsCoverOf k r cover → length bytes ≡ cover.whole → length (take r.count (drop cover.skip bytes)) ≡ r.count
 as_asked k r cover bytes is all =
     length-take-le r.count (drop cover.skip bytes) (omega (arith, length-drop cover.skip bytes, all, is.covers))

@@ -16,17 +16,17 @@ use Rattle.byte_ranges.specs.Reads.{ReadsWholeSectors}
 pub as_many : (n size all : ℕ) → all ≡ n * size → 512 ≤ size → all / size ≡ n
 as_many n size all are wide = ap (λ (m : ℕ). m / size) are ∙ mul-div_cancel n {n = size} (omega (arith, wide))
 
--- the bytes of so many sectors, where that is told
+-- the bytes of so many sectors, if the disk reports its content
 pub reads_so : (told : Option Content) (k : Keying) (sector n m : ℕ) (bytes : List ℕ) → m ≡ n → ReadsFrom told k sector m (Ok bytes) → IfSome told (λ c. data_reading k c sector n ≡ Ok bytes)
 reads_so None k sector n m bytes same h = tt
 reads_so (Some c) k sector n m bytes same h = subst (λ (j : ℕ). data_reading k c sector j ≡ Ok bytes) same h
 
--- a fault among them
+-- a fault among so many sectors
 fault_so : (told : Option Content) (k : Keying) (sector n m offset : ℕ) → m ≡ n → ReadsFrom told k sector m (Err offset) → IfSome told (λ c. (at : ℕ) × (data_reading k c sector n ≡ Err at))
 fault_so None k sector n m offset same h = tt
 fault_so (Some c) k sector n m offset same h = (offset, subst (λ (j : ℕ). data_reading k c sector j ≡ Err offset) same h)
 
--- a read of sectors that are there is refused only where the disk failed or a unit is a fault
+-- a read of sectors that are there is refused only if the disk failed or a unit is a fault
 pub cannot_read : {D : Type 0} (state : D → DiskState) (error : ReadFault) (r : SectorRequest) (n : ℕ) (bytes : List ℕ) (old new : Attached D) → r.count ≡ n → r.sector + n ≤ r.media
     → ReadAnswers state r bytes old new (Err error) → ReadsWholeSectors old.keying r.sector n bytes false (state old.disk) (state new.disk)
 cannot_read state (read.OutOfRange sector count media) r n bytes old new same inside h = absurd (omega (arith, same, inside, h.0.passes))
@@ -41,7 +41,7 @@ reads_all n m unit before now same h =
     let all : m * unit ≡ n * unit = ap (λ (j : ℕ). j * unit) same in
     omega (arith, all, h)
 
--- no more than those up to one of so many sectors
+-- no more reads than those up to one of so many sectors
 reads_up_to : (n m passed unit each before now : ℕ) → m ≡ n → passed < m → unit < each → now ≤ before + (passed * each + unit + 1) → now ≤ before + n * each
 reads_up_to n m passed unit each before now same more within h =
     let next : (passed + 1) * each ≡ passed * each + 1 * each = add-mul passed 1 each in

@@ -33,7 +33,7 @@ from_there size count whole end all some within least =
 still_there : (skip n : ℕ) (olds mids news : List ℕ) → drop skip mids ≡ drop skip olds → take (skip + n) news ≡ take (skip + n) mids → take n (drop skip news) ≡ take n (drop skip olds)
 still_there skip n olds mids news front back = sym (drop-take skip n news) ∙ ap (drop skip) back ∙ drop-take skip n mids ∙ ap (take n) front
 
--- so are those before them
+-- the bytes before those that were written are still there
 front_there : (skip n : ℕ) (mids news there : List ℕ) → take (skip + n) news ≡ take (skip + n) mids → take skip mids ≡ take skip there → take skip news ≡ take skip there
 front_there skip n mids news there back front =
     sym (take-take skip (skip + n) news (omega arith)) ∙ ap (take skip) back ∙ take-take skip (skip + n) mids (omega arith) ∙ front
@@ -90,7 +90,7 @@ spliced k r cover olds mids news old middle new is size front back = (
       (HasBack-before k (cover.first + (cover.count - 1)) (cover.skip + r.count) mids news old middle front.0 back.1),
 )
 
--- ---- where a sector can't be read
+-- ---- if a sector can't be read
 
 fault_before : (told : Option Content) (k : Keying) (r : ByteRange) (sector : ℕ) → IsEdge k r sector → IfSome told (λ c. (offset : ℕ) × (sector_reading k c sector ≡ Err offset))
     → IfSome told (λ c. (sector offset : ℕ) × IsEdge k r sector × (sector_reading k c sector ≡ Err offset))
@@ -140,11 +140,11 @@ media_same k other old new same logs = ap (λ (key : Keying). media key new) sam
 pub last_there : (k other : Keying) (old new : DiskState) (r : ByteRange) (cover : Cover) → other ≡ k → Logs [] old new → IsCoverOf k r cover → IsInside k old r → cover.first + (cover.count - 1) + 1 ≤ media other new
 last_there k other old new r cover same logs is inside = omega (arith, media_same k other old new same logs, (has_cover k old r cover is inside).1)
 
--- all of them are
+-- all sectors of a range are there
 pub all_there : (k other : Keying) (old new : DiskState) (r : ByteRange) (cover : Cover) → other ≡ k → Logs [] old new → IsCoverOf k r cover → IsInside k old r → cover.first + cover.count ≤ media other new
 all_there k other old new r cover same logs is inside = omega (arith, media_same k other old new same logs, sectors_inside k old r cover is inside)
 
--- what is answered once the first part is there
+-- what putting the second part returns, once the first part is there
 pub splices_by : (answer : Bool) (k other : Keying) (r : ByteRange) (cover : Cover) (olds mids news : List ℕ) (old middle new : DiskState) → other ≡ k → IsCoverOf k r cover → length olds ≡ cover.whole
     → PutsFrontEdge k cover.first cover.skip olds mids true old middle → PutsBackEdge other (cover.first + (cover.count - 1)) (cover.skip + r.count) mids news answer middle new
     → SplicesInto k r cover.skip olds news answer old new

@@ -26,7 +26,7 @@ no_flush false d h = Logs-nothing d
 pub writes_so : (k : Keying) (sector n m : ℕ) (bytes : List ℕ) (old new : DiskState) → m ≡ n → Logs (data_writes k sector m bytes) old new → Logs (data_writes k sector n bytes) old new
 writes_so k sector n m bytes old new same h = subst (λ (j : ℕ). Logs (data_writes k sector j bytes) old new) same h
 
--- a write of sectors that are there is refused only where the disk failed
+-- a write of sectors that are there is refused only if the disk failed
 pub cannot_write : {D : Type 0} (state : D → DiskState) (error : WriteFault) (r : SectorRequest) (n : ℕ) (bytes : List ℕ) (old new : Attached D) → r.count ≡ n → r.sector + n ≤ r.media
     → old.readonly ≡ false → WriteAnswers state r bytes old new (Err error) → FailsIn (data_writes old.keying r.sector n bytes) (state old.disk) (state new.disk)
 cannot_write state write.ReadOnly r n bytes old new same inside writable h = absurd (false≢true (sym writable ∙ h.0))
@@ -76,7 +76,7 @@ pub part_flushed : (k : Keying) (r : ByteRange) (flush : Bool) (cover : Cover) (
 part_flushed k r flush cover bytes whole old middle third new is size are splices writes fails =
     part k r flush cover bytes whole old middle new is size are splices (FailsIn-then (data_writes k cover.first cover.count whole) (flush_events flush) writes fails)
 
--- `part_flushed`, where the writes are said of the keying that the provider still has
+-- `part_flushed`, if the writes are said of the keying that the provider still has
 pub part_flushed_by : (k other : Keying) (r : ByteRange) (flush : Bool) (cover : Cover) (bytes whole : List ℕ) (old middle third new : DiskState) → other ≡ k → IsCoverOf k r cover → length bytes ≡ cover.whole → AreBytes whole
     → SplicesInto k r cover.skip bytes whole true old middle → Logs (data_writes other cover.first cover.count whole) middle third → FailsIn (flush_events flush) third new
     → IsWrittenInPart k r flush (take r.count (drop cover.skip bytes)) old new

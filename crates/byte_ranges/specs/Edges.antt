@@ -6,7 +6,7 @@ use Rattle.eli_base.specs.Keying.{Keying}
 use Rattle.provider.specs.Reading.{sector_reading}
 use Rattle.byte_ranges.specs.Ranges.{SectorHas}
 
--- a sector can't be read: the disk failed, or a unit of it has another tag than its ciphertext
+-- a sector can't be read: the disk failed, or a unit of it has another tag than that of its ciphertext
 abbrev pub EdgeFails : Keying → ℕ → DiskState → DiskState → Type 0
 EdgeFails k sector old new =
     FailsIn [] old new ⊎ (Logs [] old new × IfSome old.content (λ c. (offset : ℕ) × (sector_reading k c sector ≡ Err offset)))

@@ -25,7 +25,7 @@ skipped k r = r.offset % k.sectorsize
 abbrev pub sectors_covered : Keying → ByteRange → ℕ
 sectors_covered k r = (skipped k r + r.count + (k.sectorsize - 1)) / k.sectorsize
 
--- these in numbers
+-- a cover has the numbers of a range: its first sector, the bytes before it, how many sectors, and all their bytes
 pub record IsCoverOf (k : Keying) (r : ByteRange) (cover : Cover) : Type 0 where
   pub first : cover.first ≡ first_sector k r
   pub skip : cover.skip ≡ skipped k r

@@ -6,13 +6,14 @@ use Rattle.provider.specs.Reading.{data_reading}
 use Rattle.byte_ranges.specs.Ranges.{range_reading}
 use Rattle.byte_ranges.specs.declared.ranges.ByteRange.{ByteRange}
 
--- some sectors: their bytes; or the disk failed, or a unit has another tag than its ciphertext
+-- some sectors are read: these are their bytes; or the disk failed, or a unit has another tag than that of its
+-- ciphertext
 abbrev pub ReadsWholeSectors : Keying → ℕ → ℕ → List ℕ → Bool → DiskState → DiskState → Type 0
 ReadsWholeSectors k first count bytes true old new = Logs [] old new × IfSome old.content (λ c. data_reading k c first count ≡ Ok bytes)
 ReadsWholeSectors k first count bytes false old new =
     FailsIn [] old new ⊎ (Logs [] old new × IfSome old.content (λ c. (offset : ℕ) × (data_reading k c first count ≡ Err offset)))
 
--- a range can't be read: the disk failed, or a unit of its sectors has another tag than its ciphertext
+-- a range can't be read: the disk failed, or a unit of its sectors has another tag than that of its ciphertext
 abbrev pub CannotReadRange : Keying → ByteRange → DiskState → DiskState → Type 0
 CannotReadRange k r old new =
     FailsIn [] old new
@@ -24,7 +25,7 @@ pub record IsRangeReadAs (k : Keying) (r : ByteRange) (bytes : List ℕ) (old ne
   pub logs : Logs [] old new
   pub reads : IfSome old.content (λ c. range_reading k c r ≡ Ok bytes)
 
--- it was read, or it can't be
+-- a range was read, or it can't be
 abbrev pub ReadsRange : Keying → ByteRange → List ℕ → Bool → DiskState → DiskState → Type 0
 ReadsRange k r bytes true old new = IsRangeReadAs k r bytes old new
 ReadsRange k r bytes false old new = CannotReadRange k r old new

@@ -1,4 +1,4 @@
--- What a write of a range does: its sectors are written whole, and flushed where that is asked for.
+-- What a write of a range does: its sectors are written whole, and flushed if that is asked for.
 use Rattle.std.specs.Prelude.{◌≡◌, ◌⊎◌, ℕ, ◌*◌, Bool, true, false, List, [], ◌∷◌, ◌++◌, length, take, drop, Err, IfSome}
 use Rattle.aes_core.specs.Schedule.{AreBytes}
 use Rattle.block_traits.specs.Disk.{DiskState, FailsIn, Logs}
@@ -10,7 +10,7 @@ use Rattle.provider.specs.Writing.{data_writes}
 use Rattle.byte_ranges.specs.Ranges.{IsEdge, IsSpliced, first_sector, sectors_covered}
 use Rattle.byte_ranges.specs.declared.ranges.ByteRange.{ByteRange}
 
--- a flush, where it is asked for
+-- a flush, if it is asked for
 abbrev pub flush_events : Bool → List Event
 flush_events true = Flush ∷ []
 flush_events false = []
@@ -28,7 +28,7 @@ range_writes k r whole = data_writes k (first_sector k r) (sectors_covered k r) 
 abbrev pub Splices : Keying → ByteRange → List ℕ → List ℕ → DiskState → Type 0
 Splices k r bytes whole d = IfSome d.content (λ c. IsSpliced k c r bytes whole)
 
--- the write was made, whole, and flushed where that was asked for
+-- the write was made, whole, and flushed if that was asked for
 pub record IsWrittenWhole (k : Keying) (r : ByteRange) (flush : Bool) (bytes : List ℕ) (old new : DiskState) : Type 0 where
   pub whole : List ℕ
   pub are : AreBytes whole
@@ -56,7 +56,7 @@ SplicesInto k r skip bytes whole true old new =
     Logs [] old new × (length whole ≡ length bytes) × Splices k r (take r.count (drop skip bytes)) whole old
 SplicesInto k r skip bytes whole false old new = CannotSplice k r old new
 
--- the write was made whole; or nothing was written, since an edge can't be read, or its first part
+-- the write was made whole; or nothing was written, since an edge can't be read; or only its first part was
 abbrev pub WritesRange : Keying → ByteRange → Bool → List ℕ → Bool → DiskState → DiskState → Type 0
 WritesRange k r flush bytes true old new = IsWrittenWhole k r flush bytes old new
 WritesRange k r flush bytes false old new = CannotSplice k r old new ⊎ IsWrittenInPart k r flush bytes old new

@@ -6,11 +6,11 @@ ghost use Rattle.std.specs.Prelude.{◌≡◌, ◌+◌, ◌-◌, ◌*◌, ◌/�
 pub struct Cover {
     /// The first.
     pub first: u64,
-    /// How many.
+    /// How many there are.
     pub count: usize,
-    /// The bytes of the first before the range.
+    /// The bytes of the first sector before the range.
     pub skip: usize,
-    /// The bytes of all of them.
+    /// The bytes of all the sectors.
     pub whole: usize,
 }
 

@@ -14,7 +14,7 @@ use provider::Provider;
 pub struct ByteRange {
     /// The first byte.
     pub offset: u64,
-    /// How many.
+    /// How many bytes there are.
     pub count: u32,
 }
 
@@ -46,7 +46,7 @@ pub fn has_range<D: Disk>(provider: &Provider<D>, range: &ByteRange) -> bool
     true
 }
 
-// Reads whole sectors. `false`: the disk failed, or a unit has another tag than its ciphertext.
+// Reads whole sectors. `false`: the disk failed, or a unit has another tag than that of its ciphertext.
 pub(crate) fn read_sectors<D: Disk>(
     provider: &mut Provider<D>,
     first: u64,
@@ -69,7 +69,7 @@ pub(crate) fn read_sectors<D: Disk>(
 }
 
 /// Reads the sectors of a range. Its bytes then stand in `into` from `cover.skip` on. `false`: the disk failed, or a
-/// unit has another tag than its ciphertext.
+/// unit has another tag than that of its ciphertext.
 pub fn read_range<D: Disk>(
     provider: &mut Provider<D>,
     range: &ByteRange,

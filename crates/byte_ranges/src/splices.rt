@@ -88,7 +88,7 @@ fn put_back<D: Disk>(
 
 // Puts beside the bytes of a write, which stand at their places among the bytes of its sectors, what the first and the
 // last sector have there. `edge` is room for one sector. `false`: the disk failed, or a unit of such a sector has
-// another tag than its ciphertext.
+// another tag than that of its ciphertext.
 fn splice<D: Disk>(
     provider: &mut Provider<D>,
     sectors: &mut [u8],
@@ -142,7 +142,7 @@ fn write_sectors<D: Disk>(provider: &mut Provider<D>, first: u64, count: usize, 
     }
 }
 
-// Flushes where that is asked for.
+// Flushes the disk if `wanted` says so.
 fn flush_where<D: Disk>(provider: &mut Provider<D>, wanted: bool) -> bool
     ensures flushes { LogsOrFails (flush_events wanted) result (D.state provider.old.disk) (D.state provider.new.disk) }
     ensures unasked { (D.state provider.new.disk).reads ≡ (D.state provider.old.disk).reads }
@@ -157,10 +157,10 @@ fn flush_where<D: Disk>(provider: &mut Provider<D>, wanted: bool) -> bool
     }
 }
 
-/// Writes a range, whose bytes stand in `sectors` from `cover.skip` on, and flushes the disk where `flush` asks for it.
-/// What the first and the last sector have beside the range is read first: at most two sectors, and none where the
-/// range is whole sectors. `edge` is room for one sector. `false`: the disk failed; or a unit that had to be read has
-/// another tag than its ciphertext, and nothing was written.
+/// Writes a range, whose bytes stand in `sectors` from `cover.skip` on, and flushes the disk if `flush` says so. What
+/// the first and the last sector have beside the range is read first: at most two sectors, and none if the range is
+/// whole sectors. `edge` is room for one sector. `false`: the disk failed; or a unit that had to be read has another
+/// tag than that of its ciphertext, and nothing was written.
 pub fn write_range<D: Disk>(
     provider: &mut Provider<D>,
     sectors: &mut [u8],

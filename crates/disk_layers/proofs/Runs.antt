@@ -10,7 +10,7 @@ use Rattle.block_traits.specs.Parts.{parts}
 use Rattle.block_traits.proofs.PartLists.{length-parts}
 use Rattle.disk_layers.specs.Concat.{BothDo, LogsOnly, FailsToDo, first_events, second_events}
 
--- ---- the sectors of each
+-- ---- the sectors of each disk
 
 module _ (size n : ℕ) (sector : List ℕ) (sectors : List (List ℕ)) where
   first-step : (inside : Bool) → nat_lt n size ≡ inside → first_events size (writes_from (n + 1) sectors) ≡ writes_from (n + 1) (take (size - (n + 1)) sectors)
@@ -56,7 +56,7 @@ second-writes : (size n : ℕ) (sectors : List (List ℕ)) → second_events siz
 second-writes size n [] = sym (ap (writes_from (n - size)) (drop-none (size - n)))
 second-writes size n (sector ∷ sectors) = second-step size n sector sectors (nat_lt n size) refl (second-writes size (n + 1) sectors)
 
--- ---- their bytes
+-- ---- the bytes of these sectors
 
 take-fewer : (n k : ℕ) (bytes : List ℕ) → n ≤ k → take n (take k bytes) ≡ take n bytes
 take-fewer zero k bytes few = refl

@@ -9,17 +9,17 @@ use Rattle.block_traits.proofs.Logs.{Logs-nothing, Logs-then}
 use Rattle.disk_layers.specs.declared.write_behind.Waiting.{Waiting}
 use Rattle.disk_layers.specs.Waiting.{StopsIn, last_after, last_waiting, write_of, writes_of}
 
--- the writes that were looked at, behind their references
+-- the writes that were looked at, from the references to them
 abbrev seen : List (Bor Waiting) → List Waiting
 seen writes = map (λ write. write.now) writes
 
--- one more was looked at
+-- one more write was looked at
 last_after-push : (n : ℕ) (writes : List (Bor Waiting)) (write : Bor Waiting) (found : Option (List ℕ))
     → last_after n (seen (writes ++ write ∷ [])) found ≡ cond (write.now.n == n) (Some write.now.bytes) (last_after n (seen writes) found)
 last_after-push n [] write found = refl
 last_after-push n (first ∷ writes) write found = last_after-push n writes write (cond (first.now.n == n) (Some first.now.bytes) found)
 
--- one of this sector, and one of another
+-- a write of this sector, and one of another
 pub found_here : (n : ℕ) (writes : List (Bor Waiting)) (write : Bor Waiting) → write.now.n ≡ n → Some write.now.bytes ≡ last_waiting n (seen (writes ++ write ∷ []))
 found_here n writes write here =
     sym (last_after-push n writes write None ∙ ap (λ (b : Bool). cond b (Some write.now.bytes) (last_waiting n (seen writes))) (eq-eqb write.now.n n here))

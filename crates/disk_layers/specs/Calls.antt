@@ -1,4 +1,4 @@
--- What a call of a disk does, by its answer.
+-- What a call of a disk does, by its result.
 use Rattle.std.specs.Prelude.{◌≡◌, ℕ, List, [], ◌∷◌, Result, OnOk, OnErr}
 use Rattle.block_traits.specs.declared.disk.DiskFailed.{DiskFailed}
 use Rattle.block_traits.specs.declared.disk.Event.{Event}

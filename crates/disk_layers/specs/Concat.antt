@@ -6,7 +6,7 @@ use Rattle.block_traits.specs.declared.disk.Event.TheVariants.{Write, Flush}
 use Rattle.block_traits.specs.Disk.{DiskState, FailsIn, Logs, untold}
 use Rattle.disk_layers.specs.Calls.{AsksSector, ChangesSector}
 
--- as a disk: the sectors, the faults and the reads of both, and no content
+-- two disks as one disk: the sectors, the faults and the reads of both, and no content
 abbrev pub joined_disks : (a b : DiskState) → a.size + b.size < 2 ^ 44 → DiskState
 joined_disks a b small = untold (a.size + b.size) (a.faults + b.faults) (a.reads + b.reads) small
 
@@ -30,7 +30,7 @@ pub record WritesOne {A B : Type 0} (a : A → DiskState) (b : B → DiskState) 
   pub first : n < (a old).size → ChangesSector (Write n bytes) (a old) (a new) result × (new_second ≡ old_second)
   pub second : (a old).size ≤ n → ChangesSector (Write (n - (a old).size) bytes) (b old_second) (b new_second) result × (new ≡ old)
 
--- both were flushed; or the first refused and the second is as it was; or the first was flushed and the second refused
+-- both were flushed; or the first failed and the second is as it was; or the first was flushed and the second failed
 abbrev pub FlushesBoth : {A B : Type 0} → (A → DiskState) → (B → DiskState) → A → A → B → B → Result (Unit {0}) DiskFailed → Type 0
 FlushesBoth a b old new old_second new_second (Ok done) = LogsFlush (a old) (a new) × LogsFlush (b old_second) (b new_second)
 FlushesBoth a b old new old_second new_second (Err failed) =
@@ -45,7 +45,7 @@ first_events size [] = []
 first_events size (Write n bytes ∷ events) = (if nat_lt n size then Write n bytes ∷ first_events size events else first_events size events)
 first_events size (Flush ∷ events) = Flush ∷ first_events size events
 
--- the writes of the sectors after them, by their numbers in the second disk, and the flushes
+-- the writes of the sectors of the second disk, by their numbers there, and the flushes
 abbrev pub second_events : ℕ → List Event → List Event
 second_events size [] = []
 second_events size (Write n bytes ∷ events) = (if nat_lt n size then second_events size events else Write (n - size) bytes ∷ second_events size events)
@@ -58,7 +58,7 @@ pub record BothLog (events : List Event) (a new_a b new_b : DiskState) : Type 0 
 
 -- ---- writing whole sectors
 
--- these events were logged, and no read was asked for; where there are none, the disk is as it was
+-- these events were logged, and no read was asked for; if there are none, the disk is as it was
 pub record LogsOnly {A : Type 0} (a : A → DiskState) (events : List Event) (old new : A) : Type 0 where
   pub logs : Logs events (a old) (a new)
   pub unasked : (a new).reads ≡ (a old).reads

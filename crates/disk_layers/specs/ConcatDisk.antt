@@ -1,4 +1,4 @@
--- What two disks that are one tell.
+-- What two disks that are one report.
 use Rattle.block_traits.specs.declared.disk.Disk.{Ghosts}
 use Rattle.block_traits.specs.Disk.{DiskState}
 use Rattle.disk_layers.specs.declared.concat.Concat.{Concat}

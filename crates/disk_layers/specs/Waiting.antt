@@ -13,15 +13,15 @@ write_of write = Write write.n write.bytes
 abbrev pub writes_of : List Waiting → List Event
 writes_of waiting = map write_of waiting
 
--- each is of a sector below this size
+-- each write is of a sector below this size
 abbrev pub FitBelow : ℕ → List Waiting → Type 0
 FitBelow size waiting = All (λ write. write.n < size) waiting
 
--- in one way at most
+-- writes fit below in one way at most
 pub FitBelow-prop : (size : ℕ) (waiting : List Waiting) → IsProp (FitBelow size waiting)
 FitBelow-prop size waiting = hlevel props
 
--- the bytes of the last of them that is of sector n, where one is, or else those that were found before
+-- the bytes of the last of the writes that is of sector n, if there is one, or else those that were found before
 abbrev pub last_after : ℕ → List Waiting → Option (List ℕ) → Option (List ℕ)
 last_after n [] found = found
 last_after n (write ∷ waiting) found = last_after n waiting (if write.n == n then Some write.bytes else found)

@@ -10,7 +10,7 @@ use Rattle.disk_layers.specs.declared.write_behind.Waiting.{Waiting}
 use Rattle.disk_layers.specs.declared.write_behind.WriteBehind.{WriteBehind}
 use Rattle.disk_layers.specs.Waiting.{StopsIn, writes_of}
 
--- what the disk below tells of itself, the writes that wait, the first one first, how many may wait, and whether no
+-- what the disk below reports of itself, the writes that wait, the first one first, how many may wait, and whether no
 -- call below was refused
 pub record Behind : Type 0 where
   pub under : DiskState
@@ -18,7 +18,7 @@ pub record Behind : Type 0 where
   pub room : ℕ
   pub clean : Bool
 
--- the history below followed by the writes that wait, where the disk below is told
+-- the history below followed by the writes that wait, if the disk below reports its content
 abbrev pub order : Behind → Option Content
 order b = logged (writes_of b.waiting) b.under.content
 
@@ -31,7 +31,7 @@ pub record IsNew (under : DiskState) (most : ℕ) (b : Behind) : Type 0 where
 
 -- ---- reading
 
--- it was read below, once
+-- the sector was read below, once
 pub record ReadsBelow (n : ℕ) (bytes : List ℕ) (old new : Behind) : Type 0 where
   pub gives : Gives old.under n bytes
   pub logs : Logs [] old.under new.under
@@ -48,7 +48,7 @@ pub record RefusesRead (old new : Behind) : Type 0 where
   pub room : new.room ≡ old.room
   pub clean : new.clean ≡ false
 
--- what a read of sector n answers, where these bytes wait for it: the last of them, and nothing else happens; or what
+-- what a read of sector n returns, if these bytes wait for it: the last of them, and nothing else happens; or what
 -- stands below
 abbrev pub BehindReadAnswers : Option (List ℕ) → ℕ → List ℕ → Behind → Behind → Result (Unit {0}) DiskFailed → Type 0
 BehindReadAnswers (Some last) n bytes old new result = (result ≡ Ok tt) × (bytes ≡ last) × (new ≡ old)
@@ -79,7 +79,7 @@ pub record RefusesWrite (old new : Behind) : Type 0 where
   pub room : new.room ≡ old.room
   pub clean : new.clean ≡ false
 
--- what a write answers: where fewer wait than may, it is Ok and waits
+-- what a write returns: if fewer wait than may, it is Ok and waits
 abbrev pub BehindWriteAnswers : Waiting → Behind → Behind → Result (Unit {0}) DiskFailed → Type 0
 BehindWriteAnswers write old new (Ok done) =
     (length old.waiting < old.room → PutsBehind write old new) × (old.room ≤ length old.waiting → MakesRoom write old new)
@@ -125,6 +125,6 @@ module _ {D : Type 0} {g : Ghosts D} where
   abbrev pub behind_of : (D → DiskState) → WriteBehind D g → Behind
   behind_of state w = record { under = state w.under; waiting = w.waiting.items; room = w.room; clean = w.clean }
 
-  -- as a disk it has the size and the faults of the disk below, and tells no content
+  -- as a disk it has the size and the faults of the disk below, and reports no content
   abbrev pub behind_disk_of : (D → DiskState) → WriteBehind D g → DiskState
   behind_disk_of state w = untold (state w.under).size (state w.under).faults w.reads (state w.under).well_formed.bound

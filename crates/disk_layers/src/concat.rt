@@ -5,9 +5,9 @@ ghost use Rattle.disk_layers.specs.Concat.{AsksOne, BothDo, BothLog, LogsOnly, F
 
 use block_traits::{Disk, DiskFailed, Event, Sector};
 
-/// Two disks as one: the sectors of the first, followed by those of the second. As a disk it
-/// tells no content and shows no events.
-// The size of a disk that tells no content is bounded here, so that the bound is `Disk`.
+/// Two disks as one: the sectors of the first, followed by those of the second. As a disk it reports no content and
+/// shows no events.
+// The size of a disk that reports no content is bounded here, so that the bound is `Disk`.
 #[derive(Drop)]
 pub struct Concat<A: Disk, B: Disk> {
     first: A,
@@ -25,8 +25,8 @@ impl<A: Disk, B: Disk> Concat<A, B> {
         Concat { first, second }
     }
 
-    /// Reads sector `n`: sector `n` of the first, or beyond its end sector `n` minus its size of the second. The other
-    /// is left alone. `DiskFailed` comes only where that disk failed.
+    /// Reads sector `n`: that of the first disk, or beyond its end the sector of the second whose number is `n` minus
+    /// the size of the first. The other disk is left alone. `DiskFailed` is returned only if that disk failed.
     pub fn read_at(&mut self, n: u64, into: &mut Sector) -> Result<(), DiskFailed>
         requires { n < (A.state self.old.first).size + (B.state self.old.second).size }
         ensures { AsksOne A.state B.state n into.new self.old.first self.new.first self.old.second self.new.second result }
@@ -39,8 +39,9 @@ impl<A: Disk, B: Disk> Concat<A, B> {
         }
     }
 
-    /// Writes sector `n`: sector `n` of the first, or beyond its end sector `n` minus its size of the second. The other
-    /// is left alone. `DiskFailed` comes only where that disk failed, and then the write was done or wasn't.
+    /// Writes sector `n`: that of the first disk, or beyond its end the sector of the second whose number is `n` minus
+    /// the size of the first. The other disk is left alone. `DiskFailed` is returned only if that disk failed, and then
+    /// the write was done or wasn't.
     pub fn write_at(&mut self, n: u64, from: &Sector) -> Result<(), DiskFailed>
         requires { n < (A.state self.old.first).size + (B.state self.old.second).size }
         ensures answer { WritesOne A.state B.state n from.now self.old.first self.new.first self.old.second self.new.second result }
@@ -67,8 +68,8 @@ impl<A: Disk, B: Disk> Concat<A, B> {
         write_some(&mut self.second, first.saturating_sub(size), behind)
     }
 
-    /// Flushes the first, and then the second. Where the first refuses, the second isn't called. `DiskFailed` comes
-    /// only where one of them failed.
+    /// Flushes the first, and then the second. If the first fails, the second isn't called. `DiskFailed` is returned
+    /// only if one of them failed.
     pub fn flush_all(&mut self) -> Result<(), DiskFailed>
         ensures answer { FlushesBoth A.state B.state self.old.first self.new.first self.old.second self.new.second result }
         ensures logs { OnOk result (BothLog (Event.Flush ∷ []) (A.state self.old.first) (A.state self.new.first) (B.state self.old.second) (B.state self.new.second)) }
@@ -77,7 +78,7 @@ impl<A: Disk, B: Disk> Concat<A, B> {
         self.second.flush()
     }
 
-    /// Gives both disks back as they are. No call of them is made.
+    /// Returns both disks as they are, without calling them.
     pub fn close(self) -> (A, B)
         ensures first { result.0 ≡ self.first }
         ensures second { result.1 ≡ self.second }
@@ -87,7 +88,7 @@ impl<A: Disk, B: Disk> Concat<A, B> {
     }
 }
 
-// Writes whole sectors. Where there are none, the disk isn't called.
+// Writes whole sectors. If there are none, the disk isn't called.
 fn write_some<D: Disk>(disk: &mut D, first: u64, from: &[u8]) -> Result<(), DiskFailed>
     requires whole { length from.now % 512 ≡ 0 }
     requires inside { 512 ≤ length from.now → first + length from.now / 512 ≤ (D.state disk.old).size }
@@ -100,7 +101,7 @@ fn write_some<D: Disk>(disk: &mut D, first: u64, from: &[u8]) -> Result<(), Disk
     disk.write_sectors(first, from)
 }
 
-/// It tells its size, and the faults and reads of both disks. Its calls are `read_at`, `write_at` and `flush_all`; a
+/// It reports its size, and the faults and reads of both disks. Its calls are `read_at`, `write_at` and `flush_all`; a
 /// run of sectors goes by one call of each disk that it reaches.
 impl<A: Disk, B: Disk> Disk for Concat<A, B> {
     ghost use Rattle.disk_layers.specs.ConcatDisk.{concat_disk_of};
@@ -124,7 +125,7 @@ impl<A: Disk, B: Disk> Disk for Concat<A, B> {
         self.read_at(n, into)
     }
 
-    /// They are counted in the first.
+    /// These reads are counted in the first disk.
     fn count_reads(&mut self, many: u64)
         ensures asked { Counted many (concat_disk_of self.old).reads (concat_disk_of self.new).reads }
         ensures logs { Logs [] (concat_disk_of self.old) (concat_disk_of self.new) }

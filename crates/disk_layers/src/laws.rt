@@ -8,7 +8,8 @@ ghost use Rattle.disk_layers.specs.Concat.{BothLog, first_events, second_events}
 ghost use Rattle.disk_layers.specs.Waiting.{writes_of};
 ghost use Rattle.disk_layers.specs.WriteBehind.{Behind, order};
 
-/// Calls on two disks that are one, one after the other: each disk logged the events of its sectors among those of all.
+/// After calls on two disks that are one, one after the other, each disk has logged the events of its own sectors among
+/// those of all.
 pub fn calls_on_both_add_up()
     ensures { (events more : List Event) (a middle_a new_a b middle_b new_b : DiskState) →
         BothLog events a middle_a b middle_b → BothLog more middle_a new_a middle_b new_b → BothLog (events ++ more) a new_a b new_b }
@@ -23,13 +24,13 @@ pub fn sectors_keep_what_their_disk_keeps()
         kept_values (with_events (second_events size events) c) (n - size) ≡ kept_after events n (kept_values c (n - size)) }
 {}
 
-/// What a sector below a `WriteBehind` may hold if power fails, it may hold too after the writes that wait.
+/// What a sector below a `WriteBehind` may hold if power fails, it may also hold after the writes that wait.
 pub fn values_kept_below_are_kept_in_order()
     ensures { (c : Content) (waiting : List Waiting) (n : ℕ) (value : List ℕ) → Contains (kept_values c n) value →
         Contains (kept_values (with_events (writes_of waiting) c) n) value }
 {}
 
-/// Over calls one after the other the order grows by the events of each.
+/// Over several calls the order grows by the events of each, one after the other.
 pub fn orders_add_up()
     ensures { (events more : List Event) (old middle new : Behind) → order middle ≡ logged events (order old) →
         order new ≡ logged more (order middle) → order new ≡ logged (events ++ more) (order old) }

@@ -16,9 +16,8 @@ pub enum Layer {
     Join { middle: usize },
 }
 
-/// What the name of an image asks for. `Behind` exactly where it begins with `behind:` and has more; `Join` exactly
-/// where it begins with `join:` and a colon follows, the first of which is `middle` and has bytes on both sides; else
-/// `Plain`.
+/// What the name of an image asks for. `Behind` exactly if it begins with `behind:` and has more; `Join` exactly if it
+/// begins with `join:` and a colon follows, the first of which is `middle` and has bytes on both sides; else `Plain`.
 pub fn layer_of(name: &str) -> Layer
     ensures behind { (result ≡ Layer.Behind) ↔ IsBehind name.now }
     ensures join { (middle : ℕ) → (result ≡ Layer.Join middle) ↔ IsJoin middle name.now }
@@ -30,7 +29,7 @@ pub fn layer_of(name: &str) -> Layer
     }
 }
 
-// What a name asks for that doesn't begin with `behind:`, or has nothing after that.
+// What is asked for by a name that doesn't begin with `behind:`, or has nothing after that.
 fn join_of(bytes: &[u8]) -> Layer
     ensures behind { (result ≡ Layer.Behind) → ⊥ }
     ensures join { (middle : ℕ) → (result ≡ Layer.Join middle) ↔ IsJoin middle bytes.now }

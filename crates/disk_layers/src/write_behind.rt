@@ -30,7 +30,7 @@ pub struct Waiting {
     pub bytes: Sector,
 }
 
-/// A disk and writes that wait for it, in their order. As a disk it tells no content and shows no events.
+/// A disk and writes that wait for it, in their order. As a disk it reports no content and shows no events.
 #[derive(Drop)]
 pub struct WriteBehind<D: Disk> {
     under: D,
@@ -48,7 +48,7 @@ pub struct WriteBehind<D: Disk> {
 impl<D: Disk> WriteBehind<D> {
     ghost use Rattle.disk_layers.specs.WriteBehind.{EndsAnswers, FlushAnswers, IsNew, BehindReadAnswers, BehindWriteAnswers, behind_of, order};
 
-    /// A disk for which up to `room` writes may wait. Where there is no memory for them the disk comes back.
+    /// A disk for which up to `room` writes may wait. If there is no memory for them, the disk comes back.
     pub fn new(alloc: Global, under: D, room: u32) -> Result<WriteBehind<D>, (D, NoMemory)>
         requires some { 1 ≤ room }
         requires small { room ≤ 1024 }
@@ -69,8 +69,8 @@ impl<D: Disk> WriteBehind<D> {
         })
     }
 
-    /// Reads sector `n`: the last write of it that waits, and nothing is done below; or else what stands below, which
-    /// is read once. `DiskFailed` comes only where the disk below failed.
+    /// Reads sector `n`. If a write of it waits, the last one is read, and nothing is done below; or else what stands
+    /// below, which is read once. `DiskFailed` is returned only if the disk below failed.
     pub fn read_at(&mut self, n: u64, into: &mut Sector) -> Result<(), DiskFailed>
         requires { n < (D.state self.old.under).size }
         ensures answer { BehindReadAnswers (last_waiting n self.old.waiting.items) n into.new (behind_of D.state self.old) (behind_of D.state self.new) result }
@@ -93,8 +93,8 @@ impl<D: Disk> WriteBehind<D> {
         }
     }
 
-    /// Adds a write after those that wait. If as many wait as there is room for, they are written below first, in
-    /// their order; else nothing is done below. `DiskFailed` comes only where the disk below failed: the write that it
+    /// Adds a write after those that wait. If as many wait as there is room for, they are written below first, in their
+    /// order; else nothing is done below. `DiskFailed` is returned only if the disk below failed: the write that it
     /// refused and those after it wait still, and this one isn't taken.
     pub fn write_at(&mut self, n: u64, from: &Sector) -> Result<(), DiskFailed>
         requires { n < (D.state self.old.under).size }
@@ -110,8 +110,8 @@ impl<D: Disk> WriteBehind<D> {
         Ok(())
     }
 
-    /// Writes all that wait below, in their order, and then flushes below. `DiskFailed` comes only where the disk below
-    /// failed: a write that it refused and those after it wait still.
+    /// Writes all that wait below, in their order, and then flushes below. `DiskFailed` is returned only if the disk
+    /// below failed: a write that it refused and those after it wait still.
     pub fn flush_all(&mut self) -> Result<(), DiskFailed>
         ensures answer { FlushAnswers (behind_of D.state self.old) (behind_of D.state self.new) result }
         ensures order { OnOk result (order (behind_of D.state self.new) ≡ logged (Event.Flush ∷ []) (order (behind_of D.state self.old))) }
@@ -143,7 +143,7 @@ impl<D: Disk> WriteBehind<D> {
         self.clean
     }
 
-    /// Flushes as `flush_all` does, and gives the disk back either way. Where that failed, what waits is lost.
+    /// Flushes as `flush_all` does, and returns the disk in any case. If the flush failed, what waits is lost.
     pub fn close(mut self) -> (D, Result<(), DiskFailed>)
         ensures { EndsAnswers (behind_of D.state self) (D.state result.0) result.1 }
     {
@@ -179,7 +179,7 @@ impl<D: Disk> WriteBehind<D> {
     }
 }
 
-// Writes all that wait. Each is taken out once the disk answered Ok to it.
+// Writes all that wait. Each is taken out once the disk returned Ok for it.
 fn drain<D: Disk>(under: &mut D, waiting: &mut VecDeque<Waiting>) -> Result<(), DiskFailed>
     requires { FitBelow (D.state under.old).size waiting.old.items }
     ensures ok { OnOk result (Logs (writes_of waiting.old.items) (D.state under.old) (D.state under.new)) }
@@ -212,7 +212,7 @@ fn last_of(waiting: &VecDeque<Waiting>, n: u64) -> Option<Sector>
     found
 }
 
-/// It tells the size and the faults of the disk below, and its own reads. Its calls are `read_at`, `write_at` and
+/// It reports the size and the faults of the disk below, and its own reads. Its calls are `read_at`, `write_at` and
 /// `flush_all`.
 impl<D: Disk> Disk for WriteBehind<D> {
     ghost use Rattle.std.specs.Prelude.{◌/◌, ◌%◌, ◌+◌};
@@ -238,7 +238,7 @@ impl<D: Disk> Disk for WriteBehind<D> {
         self.read_at(n, into)
     }
 
-    /// Counted is here alone, and nothing is done below.
+    /// These reads are counted here alone, and nothing is done below.
     fn count_reads(&mut self, many: u64)
         ensures asked { Counted many self.old.reads self.new.reads }
         ensures logs { Logs [] (behind_disk_of D.state self.old) (behind_disk_of D.state self.new) }

@@ -40,7 +40,7 @@ found changes i change name inside here same =
     ∙ sym (ap (λ (b : Bool). cond b (given_named change.id change.bytes) (after_changes nothing (take i changes) name)) is)
     ∙ sym (ap (λ (named : NameMap). named name) (one_more changes i change inside here))
 
--- it is of another
+-- the change at i is of another name
 pub passed : (changes : List Change) (last : Option ℕ) (i : ℕ) (change : Change) (name : List ℕ) → i < length changes → get_or changes i change ≡ change → (string_bytes change.name ≡ name → ⊥)
     → named_at changes last ≡ after_changes nothing (take i changes) name → named_at changes last ≡ after_changes nothing (take (i + 1) changes) name
 passed changes last i change name inside here other before =

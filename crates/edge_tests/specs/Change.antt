@@ -1,4 +1,4 @@
--- What names have that were given something in memory.
+-- What names have after changes in memory.
 use Rattle.std.specs.Prelude.{◌≡◌, ℕ, List, [], ◌∷◌, Option, None, Some, slice_get, string_bytes}
 use Rattle.std.specs.declared.vec.Vec.{Vec}
 use Rattle.file_edge.specs.Names.{Absent, Failing, Holds, Named, NameMap, with_name}

@@ -5,7 +5,7 @@ use Rattle.block_traits.specs.Content.{Content, IsContentOf}
 use Rattle.block_traits.specs.Disk.{DiskState, FitsSize}
 use Rattle.file_edge.specs.Told.{Told, contents}
 
--- what is told by a file of so many sectors that hold this
+-- what a file of so many sectors reports that hold this
 abbrev pub told_from : (size : ℕ) (told : Option Content) → FitsSize size told → Option Told
 told_from size None fits = None
 told_from size (Some c) fits = let P : ℕ → Type 0 = λ n. IsContentOf n c in Some (record { content = c; fits = subst P (sym fits.sectors) fits })

@@ -3,14 +3,14 @@ ghost use Rattle.std.specs.Prelude.{◌≡◌, ◌<◌, IfSome, length};
 
 use file_edge::FileId;
 
-/// What a name was given: a file, and which one, where that is told; or nothing.
+/// What a name was given: a file, and which one, if that is reported; or nothing.
 #[derive(Drop)]
 pub struct Change {
     /// The name.
     pub name: String,
-    /// Which file it is, where that is told.
+    /// Which file it is, if that is reported.
     pub id: Option<FileId>,
-    /// Its bytes; `None` where the name has nothing from then on.
+    /// Its bytes; `None`: the name has nothing from then on.
     pub bytes: Option<Vec<u8>>,
 }
 

@@ -1,4 +1,4 @@
-//! A file whose sectors are those of a disk, and which tells what the disk does.
+//! A file whose sectors are those of a disk, and which reports what the disk does.
 ghost use Rattle.std.specs.Prelude.{◌≡◌, ◌≤◌, ◌*◌, IfOk, None, Some, drop, length};
 
 use block_traits::{ByteList, Disk};
@@ -6,7 +6,7 @@ use file_edge::{FileId, FileKind, Found, ImageFile};
 use std::alloc::Global;
 use std::io::{self, ErrorKind};
 
-/// A file over a disk, of which a read is a sector. From its front it gives these bytes, and tells them.
+/// A file over a disk; each read of it is one sector. From its front it gives these bytes, and reports them.
 #[derive(Drop)]
 pub struct DiskFile<D: Disk> {
     disk: D,

@@ -18,7 +18,7 @@ fn takes(disk: &mut FileDisk<File>, n: u64, byte: u8) -> bool {
     n < disk.sectors() && disk.write(n, &[byte; 512]).is_ok()
 }
 
-// Whether sectors 1 and 2 do, by one write.
+// Whether sectors 1 and 2 take this byte at each place, by one write.
 fn take(disk: &mut FileDisk<File>, byte: u8) -> bool {
     2 < disk.sectors() && disk.write_sectors(1, &[byte; 1024]).is_ok()
 }
@@ -40,8 +40,8 @@ fn serves(disk: &mut FileDisk<File>) -> bool {
     one && take(disk, 4) && has(disk, 1, 4) && has(disk, 2, 4)
 }
 
-// Whether it takes bytes where its file has 1,100 left: sector 1 stands before the end, and what reaches beyond it is
-// refused whole.
+// Whether the disk takes bytes if its file has 1,100 left: sector 1 stands before the end, and a write that reaches
+// beyond the end is refused whole.
 fn serves_the_front(disk: &mut FileDisk<File>) -> bool {
     takes(disk, 1, 5) && !takes(disk, 2, 6) && !take(disk, 6)
 }
@@ -73,7 +73,7 @@ fn a_file_is_a_disk(rt: HostRuntime) -> Result<(), Fail> {
     Ok(())
 }
 
-// The sectors of the disk of a file: two where none is opened.
+// The sectors of the disk of a file: two if none is opened.
 fn sectors_of(rt: &HostRuntime, changes: bool, name: &str) -> Result<u64, Fail> {
     Ok(disk_of(rt, changes, name)?.sectors())
 }
@@ -105,7 +105,7 @@ fn ends_image(rt: &HostRuntime, name: &str) -> Result<bool, Fail> {
     Ok(image.write(last, &[9; 512]).is_ok() && image.flush().is_ok())
 }
 
-// Whether a file of three sectors is left with zeros, and these bytes in its last sector. It goes.
+// Whether a file of three sectors is left with zeros, and this byte throughout its last sector. The file is removed.
 fn is_left(rt: &HostRuntime, name: &str, last: u8) -> Result<bool, Fail> {
     let file = fs::read(rt, name)?;
     fs::remove_file(rt, name)?;
@@ -195,7 +195,7 @@ fn more_than_may_wait_ends_in_its_file(rt: HostRuntime) -> Result<(), Fail> {
     Ok(())
 }
 
-// Each of the four calls of a file that has an image does just what it says, and what is found of a name is by its
+// Each of the four calls of a file that has an image does just what it says. What is found under a name has the right
 // kind.
 #[test]
 fn a_file_of_the_system_keeps_its_promises(rt: HostRuntime) -> Result<(), Fail> {

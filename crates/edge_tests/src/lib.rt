@@ -1,4 +1,5 @@
-//! The edge over the system's own files and streams, a store over files that fail, and a file that tells what it holds.
+//! The edge over the system's own files and streams, a store over files that fail, and a file that reports what it
+//! holds.
 #![tactic(auto)]
 
 mod change;

@@ -1,4 +1,4 @@
-//! An opener over files in memory, which tells what its names have.
+//! An opener over files in memory, which reports what its names have.
 ghost use Rattle.std.specs.Prelude.{◌≡◌, None, Some, string_bytes};
 ghost use Rattle.std.specs.IoError.{error_kind};
 
@@ -14,12 +14,12 @@ use std::io::{self, ErrorKind};
 use std::process::Abort;
 use std::rc::Rc;
 
-/// What was asked of the names of files but to find them, in order, a letter each: `o` for an open to be read alone,
-/// `O` for one to be read and written, and `x` for any other.
+/// All that was asked of the names of files, except to find them, in order, a letter each: `o` for an open only to
+/// read, `O` for one to read and write, and `x` for any other.
 pub(crate) type Changes = Rc<RefCell<Vec<u8>>>;
 
-/// Files of which each stands over a disk of 2,048 sectors; some calls of the disk fail. The events of the file of this
-/// number are seen.
+/// Files, each of which stands over a disk of 2,048 sectors; some calls of the disk fail. The events of the file of
+/// this number are seen.
 #[derive(Drop)]
 pub(crate) struct MemFiles<R: Abort + Drop> {
     alloc: Global,
@@ -51,7 +51,7 @@ pub(crate) fn counted(alloc: Global, count: u64) -> Result<Vec<u8>, AllocError> 
     Ok(bytes)
 }
 
-/// Events of which there are none yet.
+/// An empty list of events.
 pub(crate) fn none_seen(alloc: Global) -> Result<Seen, AllocError> {
     Ok(Rc::new(alloc, RefCell::new(Vec::new(alloc)))?)
 }

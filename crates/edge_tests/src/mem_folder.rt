@@ -1,4 +1,4 @@
-//! Files in memory by their names, which are told.
+//! Files in memory by their names; what the names have is reported.
 ghost use Rattle.std.specs.Prelude.{◌≡◌};
 ghost use Rattle.file_edge.specs.Names.{with_name};
 ghost use Rattle.edge_tests.specs.Change.{HasFile, after_changes, given_named, nothing};
@@ -8,7 +8,7 @@ use file_edge::FileId;
 use std::alloc::{AllocError, Global};
 use std::process::Abort;
 
-/// A folder in memory. Each name has what it was given last. A test ends where there is no memory.
+/// A folder in memory. Each name has what it was given last. A test ends if there is no memory.
 #[derive(Drop)]
 pub(crate) struct MemFolder<R: Abort + Drop> {
     rt: R,

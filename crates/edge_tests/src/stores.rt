@@ -16,8 +16,8 @@ fn some_file() -> FileId {
     }
 }
 
-// An opener in memory that keeps all that it was asked, and tells it. Something has as many names beside as are met,
-// and the request of this number fails, counted from 1.
+// An opener in memory that keeps all that it was asked, and reports it. The first `met` names beside are taken, and the
+// request number `fails`, counted from 1, fails.
 #[derive(Drop)]
 struct KeptFiles<R: Abort + Drop> {
     rt: R,
@@ -31,7 +31,7 @@ struct KeptFiles<R: Abort + Drop> {
 impl<R: Abort + Drop> KeptFiles<R> {
     ghost use Rattle.file_edge.specs.Kept.{kept_asks, kept_request};
 
-    // Keeps a request; the test ends where there is no memory.
+    // Keeps a request; the test ends if there is no memory.
     fn keep(&mut self, ask: Ask, done: bool)
         ensures kept { kept_asks self.new.asked.items ≡ kept_asks self.old.asked.items ++ asking (kept_request ask) done }
         ensures refusals { self.new.refusals ≡ self.old.refusals }
@@ -171,7 +171,7 @@ fn letter(ask: &Ask) -> u8 {
     }
 }
 
-// Each request failing in turn: a file that wasn't synced takes no name, and no other file is left; names beside that
+// Each request fails in turn. A file that wasn't synced takes no name, and no other file is left; names beside that
 // something has stay.
 #[test]
 fn a_store_stops_at_the_first_failure(rt: HostRuntime) -> Result<(), Fail> {

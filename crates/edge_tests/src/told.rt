@@ -1,4 +1,4 @@
-//! Runs of words over files in memory that tell what they hold.
+//! Runs of words over files in memory that report what they hold.
 use crate::mem_files::{Changes, MemFiles, counted, none_seen};
 use crate::mem_folder::MemFolder;
 use crate::seen_disk::Seen;
@@ -28,7 +28,7 @@ fn status_of<R: Abort + Drop>(
     }
 }
 
-// A script over the image, of which these calls fail.
+// A script over the image; these calls of the image fail.
 fn run_script<R: Abort + Drop>(
     rt: R,
     alloc: Global,
@@ -76,7 +76,7 @@ const SESSION: [&str; 3] = [
     "\nflush b.img\n",
 ];
 
-// A script that is joined by 4,096 bytes of 0x5a, as digits.
+// The parts of a script, joined by 4,096 bytes of 0x5a, as digits.
 fn joined(alloc: Global, parts: &[&str]) -> Result<Vec<u8>, AllocError> {
     let mut script = Vec::from_slice(alloc, INIT.as_bytes())?;
     for (i, part) in parts.iter().enumerate() {
@@ -107,7 +107,7 @@ fn an_ordinary_session_leaves_its_bytes(rt: HostRuntime) -> Result<(), Fail> {
     Ok(())
 }
 
-// What a script on a new provider answers and leaves, where these calls of its image fail.
+// What a script on a new provider prints and leaves if these calls of its image fail.
 fn replies<R: Abort + Drop>(
     rt: R,
     alloc: Global,
@@ -203,7 +203,7 @@ fn takes_two_flushes<R: Abort + Drop>(
     )
 }
 
-// A flush of a layer is a sync of the file of what waits, after its write, and of the second file of a join.
+// A flush of a layer syncs its files: that of `behind:` after the waiting write, that of `join:` also the second file.
 #[test]
 fn a_flush_of_a_layer_syncs_its_files(rt: HostRuntime) -> Result<(), Fail> {
     let alloc = rt.alloc();
@@ -235,7 +235,7 @@ const OUTPUT: [u8; 32] = [
     0xd6, 0x97, 0xd1, 0xb1, 0x00, 0xa0, 0x05, 0x25, 0xb3, 0x09, 0x87, 0xf3, 0xd7, 0x0e, 0xa0, 0xc3,
 ];
 
-// The digest of the 14 events that it wants.
+// The digest of the 14 events that the case `ordinary-session` wants.
 const EVENTS: [u8; 32] = [
     0x7c, 0xb2, 0xd3, 0xfb, 0x07, 0x81, 0xb8, 0x36, 0xb3, 0x85, 0x54, 0xa5, 0xc7, 0x9e, 0x88, 0xc0,
     0x46, 0x42, 0x44, 0xb3, 0xb3, 0x4c, 0x13, 0xd0, 0x8d, 0xe8, 0xc4, 0x1d, 0xde, 0xe2, 0x0f, 0x92,
@@ -257,7 +257,7 @@ fn folder<R: Abort + Drop>(rt: R, alloc: Global) -> Result<MemFolder<R>, Fail> {
     Ok(files.folder)
 }
 
-// How such a run ends, and the folder that it leaves.
+// How such a run of words ends, and the folder that it leaves.
 fn end_of<R: Abort + Drop>(
     rt: R,
     alloc: Global,
@@ -286,7 +286,7 @@ fn end_of<R: Abort + Drop>(
     )
 }
 
-// How a run is to end: its status, what it asks of names, and the name that it stores; none has no bytes.
+// How a run is to end: its status, what it asks of names, and the name that it stores, which is empty if there is none.
 #[derive(Clone, Copy)]
 struct Wanted<'a> {
     status: Status,
@@ -303,7 +303,7 @@ fn end<'a>(status: Status, asked: &'a [u8]) -> Wanted<'a> {
     }
 }
 
-// Whether it ends so, and each name has the bytes that it had before, but for the one that is stored.
+// Whether a run ends as wanted, and each name has the bytes that it had before, but for the one that is stored.
 fn asks<R: Abort + Drop>(
     rt: R,
     alloc: Global,
@@ -341,9 +341,9 @@ fn alone<'a>(words: &'a [&'a str], room: u64) -> Given<'a> {
     }
 }
 
-// Just the images, the random bytes and the files that lines load are opened, an image to be changed but where the
-// command only reads; no file is made, replaced or removed but the one that a line names to be stored, each other has
-// its bytes, and three words are served.
+// Just the images, the random bytes and the files that lines load are opened; an image is opened to be changed unless
+// the command only reads. No file is made, replaced or removed but the one that a line names to be stored. Each other
+// file has its bytes, and three words are served.
 #[test]
 fn a_run_changes_no_name_but_those_it_stores(rt: HostRuntime) -> Result<(), Fail> {
     let alloc = rt.alloc();
@@ -361,7 +361,7 @@ fn a_run_changes_no_name_but_those_it_stores(rt: HostRuntime) -> Result<(), Fail
     Ok(())
 }
 
-// So it is with each status that a run over memory can have.
+// A run that ends early, whatever its status, opens only such files, and changes none.
 #[test]
 fn a_run_that_ends_early_changes_no_name(rt: HostRuntime) -> Result<(), Fail> {
     let alloc = rt.alloc();
@@ -438,8 +438,8 @@ fn two_providers_take_successive_random_bytes(rt: HostRuntime) -> Result<(), Fai
     Ok(())
 }
 
-// A key file of 2,000 bytes opens what was made with it; one whose first 600 bytes alone are the same doesn't, nor do
-// those 600 bytes.
+// A key file of 2,000 bytes opens what was made with it. One of which only the first 600 bytes are equal doesn't, nor
+// do those 600 bytes.
 #[test]
 fn a_key_file_counts_to_its_end(rt: HostRuntime) -> Result<(), Fail> {
     let alloc = rt.alloc();

@@ -24,7 +24,7 @@ met_one_more name number beside kind first second third named is before then =
     more_then (met name number) (asking (Meet 0o600 (beside_name name number)) false) first second third before one
     ∙ ap (λ (count : ℕ). more (met name count) first) (sym (add-one number))
 
--- no file was made, and something else was the matter
+-- no file was made, for another reason than that something has the name
 pub met_then_none : (name : List ℕ) (number : ℕ) (beside : List ℕ) (kind : ErrorKind) (first second third : Option (List Asked))
     → beside ≡ beside_name name number → (kind ≡ AlreadyExists → ⊥)
     → second ≡ more (met name number) first → third ≡ more (unmade 0o600 beside kind) second

@@ -1,4 +1,4 @@
--- What a cabinet tells of what names have.
+-- What a cabinet reports of what names have.
 use Rattle.std.proofs.Common.{◌≡◌, ◌⊎◌, ◌∙◌, inl, inr, ap, refl, subst, sym, List, ℕ, Bool, true, false, cond, ◌==◌, Option, None, Some, Result, Ok, Err}
 use Rattle.std.specs.Bool.{Decides}
 use Rattle.std.specs.IoError.{error_kind}
@@ -92,7 +92,7 @@ module _ {O F : Type 0} (o : opener.Ghosts O F) (f : image_file.Ghosts F) (image
   failed : (answer : Result (List ℕ) LoadFault) → result ≡ Err load.Failed → Answers answer result
   failed answer is = let P : Result (List ℕ) LoadFault → Type 0 = λ r. Answers answer r in subst P (sym is) tt
 
-  -- a file that is no image is none of them by the name under which it is told
+  -- a file that is no image is none of them by the name under which it is reported
   which_bytes : (id : Option FileId) (bytes : List ℕ) (file : F) (found : Result Found Error) → IsThatFile f id file → f.tells file found
       → (IsOneOfImages images found → ⊥) → bytes_beside images (Holds id bytes) ≡ Some bytes
   which_bytes None bytes file found that tells other = refl
@@ -149,7 +149,7 @@ none_gives images name limit result (Some names) false same none answered =
     let Q : Result (List ℕ) LoadFault → Type 0 = λ r. Answers (Err load.Absent) r in
     subst P (sym same) (subst Q (sym answered) refl)
 
--- what is loaded is what is told of the name
+-- what is loaded is what is reported of the name
 pub named_gives : {O F : Type 0} (o : opener.Ghosts O F) (f : image_file.Ghosts F) (images : List FileId) (old : O) (name : List ℕ) (limit : ℕ) (result : Result (List ℕ) LoadFault) (new : O)
     → LoadsNamed o f images old name limit result new → LoadGives (told_files images (o.told old)) name limit result
 named_gives o f images old name limit result new loads = by_text (is_utf8 name) refl

@@ -1,4 +1,4 @@
--- What is left of a file where nothing was done, and of one that tells nothing.
+-- What is left of a file if nothing was done, and of one that reports nothing.
 use Rattle.std.proofs.Common.{ℕ, Bool, false, List, length, Option, None, refl, sym, arith}
 use Rattle.block_traits.specs.declared.disk.Event.{Event}
 use Rattle.block_traits.specs.Content.{Content}
@@ -14,7 +14,7 @@ leaves_nothing events sectors told = record {
   left = sym (logged-none told);
 }
 
--- of a file that tells nothing nothing is left, whatever was done
+-- nothing is left of a file that reports nothing, whatever was done
 pub leaves_untold : (events : List Event) (sectors : ℕ) (done : Bool) → Leaves events sectors done None None
 leaves_untold events sectors done = record {
   count = length events;

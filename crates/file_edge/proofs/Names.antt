@@ -53,14 +53,14 @@ module _ (name beside bytes : List ℕ) (first before : Option NamedFiles) (made
       let w : WritesNew bytes true before after = subst P is writes in
       w ∙ ap (option_map (written_behind bytes)) made_beside.1
 
-  -- it wasn't synced
+  -- the new file wasn't synced
   pub left-synced : (done : Bool) (after synced removed : Option NamedFiles) → done ≡ true → WritesNew bytes done before after → synced ≡ after
       → removed ≡ option_map (without_name beside) synced → named_of removed ≡ named_of first
   left-synced done after synced removed is writes stays removes =
       ap named_of (removes ∙ ap (option_map (without_name beside)) (stays ∙ all_written done after is writes))
       ∙ cleared beside (λ names. appended (names.named names.fresh) bytes) first made_beside.0
 
-  -- it wasn't renamed
+  -- the new file wasn't renamed
   pub left-renamed : (done given : Bool) (after synced moved removed : Option NamedFiles) → done ≡ true → WritesNew bytes done before after → synced ≡ after
       → given ≡ false → RenamesName beside name given synced moved → removed ≡ option_map (without_name beside) moved → named_of removed ≡ named_of first
   left-renamed done given after synced moved removed is writes stays failed renames removes =
@@ -81,7 +81,7 @@ module _ (name beside bytes : List ℕ) (first before : Option NamedFiles) (made
   stored_as done given after synced there last is writes stays gave renames same =
       ap named_of (same ∙ all_renamed done given after synced there is writes stays gave renames) ∙ moved name beside bytes first made_beside.0
 
--- the folder isn't synced only where nothing is told
+-- syncing the folder fails only if nothing is reported
 never_fails : (name beside bytes : List ℕ) (first there : Option NamedFiles) (synced : Bool) → there ≡ option_map (renamed beside name) (option_map (written_behind bytes) (option_map (made_empty beside) first))
     → IfSome there (λ names. synced ≡ true) → synced ≡ false → named_of there ≡ named_of first
 never_fails name beside bytes None there synced is never failed = ap named_of is

@@ -1,4 +1,4 @@
--- Disks that tell the same.
+-- Disks that report the same.
 use Rattle.std.specs.Coded.{Unit-prop}
 use Rattle.std.proofs.Common.{◌≡◌, ℕ, false, Option, Some, None, ap, subst, sym}
 use Rattle.std.proofs.Props.{props}
@@ -10,7 +10,7 @@ FitsSize-prop : (size : ℕ) (told : Option Content) → IsProp (FitsSize size t
 FitsSize-prop size None = Unit-prop
 FitsSize-prop size (Some c) = IsContentOf-prop size c
 
--- what a disk tells is well formed in one way at most
+-- what a disk reports is well formed in one way at most
 IsWellFormed-prop : (size : ℕ) (told : Option Content) → IsProp (IsWellFormed size false told)
 IsWellFormed-prop size told = hlevel (props, FitsSize-prop)
 

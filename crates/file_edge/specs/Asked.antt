@@ -8,7 +8,7 @@ use Rattle.std.specs.declared.io.ErrorKind.TheVariants.{AlreadyExists}
 
 -- one request: what a name leads to, through links; what has a name; the file of a name; a new file of a mode and a
 -- name, or one whose name something has already; bytes after those of the new file; the new file on the disk; another
--- name for a file, in place of what has it; the folder of a name on the disk; a name less
+-- name for a file, in place of what has it; the folder of a name on the disk; a name that is removed
 pub data FileRequest : Type 0 where
   Find : (name : List ℕ) → FileRequest
   Look : (name : List ℕ) → FileRequest
@@ -29,7 +29,7 @@ pub record Asked : Type 0 where
 abbrev pub asking : FileRequest → Bool → List Asked
 asking request done = record { request = request; done = done } ∷ []
 
--- a list with these items added at its end, where it is told
+-- a list with these items added at its end, if the list is reported
 abbrev pub more : {A : Type 0} → List A → Option (List A) → Option (List A)
 more items told = option_map (λ before. before ++ items) told
 
@@ -38,7 +38,7 @@ abbrev pub unmade : ℕ → List ℕ → ErrorKind → List Asked
 unmade mode name AlreadyExists = asking (Meet mode name) false
 unmade mode name kind = asking (Make mode name) false
 
--- the request for a new file, by its answer
+-- the request for a new file, by what it came to
 abbrev pub making : ℕ → List ℕ → Result Unit Error → List Asked
 making mode name (Ok done) = asking (Make mode name) true
 making mode name (Err error) = unmade mode name (error_kind error)

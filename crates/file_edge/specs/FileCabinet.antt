@@ -1,4 +1,4 @@
--- What a cabinet answers, by what it finds under a name.
+-- What a cabinet returns, by what it finds under a name.
 use Rattle.std.specs.Prelude.{◌≡◌, ◌+◌, ◌-◌, ◌^◌, min, ℕ, List, Option, Some, Result, Ok, Err, IfSome, is_ok}
 use Rattle.std.specs.IoError.{error_kind}
 use Rattle.std.specs.Str.{IsUtf8}
@@ -17,35 +17,35 @@ use Rattle.file_edge.specs.declared.found.Found.{Found}
 use Rattle.file_edge.specs.declared.image_file.ImageFile as image_file
 use Rattle.file_edge.specs.declared.opener.Opener as opener
 
--- why nothing is loaded where the file can't be opened
+-- why nothing is loaded if the file can't be opened
 abbrev pub fault_of : ErrorKind → LoadFault
 fault_of kinds.NotFound = load.Absent
 fault_of kinds.OutOfMemory = load.NoMemory
 fault_of kind = load.Failed
 
--- why nothing is loaded where the file can't be read
+-- why nothing is loaded if the file can't be read
 abbrev pub read_fault : ErrorKind → LoadFault
 read_fault kinds.OutOfMemory = load.NoMemory
 read_fault kind = load.Failed
 
--- what is loaded of a file that was read so
+-- what is loaded of a file whose reading came to this
 abbrev pub loaded_answer : Result (List ℕ) Error → ℕ → Result (List ℕ) LoadFault
 loaded_answer (Ok bytes) limit = load_answer (Some bytes) limit
 loaded_answer (Err error) limit = Err (read_fault (error_kind error))
 
--- it is read to its end, or to a byte past the limit, and that is what is answered
+-- the file is read to its end, or to a byte past the limit, and that is what is returned
 pub record ReadsWhole {F : Type 0} (f : image_file.Ghosts F) (file : F) (limit : ℕ) (result : Result (List ℕ) LoadFault) : Type 0 where
   pub read : Result (List ℕ) Error
   pub held : f.holds file (min (limit + 1) (2 ^ 64 - 1)) read
   pub answered : result ≡ loaded_answer read limit
 
--- a file that is open isn't absent; where it knows its bytes they are answered, or they are too many, or it failed
+-- an open file isn't absent; if it knows its bytes, they are returned, or they are too many, or reading failed
 abbrev pub LoadAnswers : Option (List ℕ) → ℕ → Result (List ℕ) LoadFault → Type 0
 LoadAnswers known limit (Err load.Absent) = ⊥
 LoadAnswers known limit result = IfSome known (λ bytes. Answers (load_answer (Some bytes) limit) result)
 
 module _ {O F : Type 0} (o : opener.Ghosts O F) (f : image_file.Ghosts F) (images : List FileId) where
-  -- an image isn't read; another file is, and answered so
+  -- an image isn't read; another file is, and what was read is returned
   pub record ReadsOpened (file : F) (limit : ℕ) (result : Result (List ℕ) LoadFault) : Type 0 where
     pub found : Result Found Error
     pub told : f.tells file found
@@ -53,12 +53,12 @@ module _ {O F : Type 0} (o : opener.Ghosts O F) (f : image_file.Ghosts F) (image
     pub other : (IsOneOfImages images found → ⊥) → LoadAnswers (f.left file) limit result
     pub whole : (IsOneOfImages images found → ⊥) → ReadsWhole f file limit result
 
-  -- what was opened is read, or the refusal is answered
+  -- what was opened is read, or the refusal is returned
   abbrev pub LoadsOpened : Result F Error → ℕ → Result (List ℕ) LoadFault → Type 0
   LoadsOpened (Ok file) limit result = ReadsOpened file limit result
   LoadsOpened (Err error) limit result = result ≡ Err (fault_of (error_kind error))
 
-  -- the file of this name is opened to be read, it is what was told of the name, and nothing else is asked
+  -- the file of this name is opened to be read, it is what was reported of the name, and nothing else is asked
   pub record LoadsNamedFile (old : O) (name : List ℕ) (limit : ℕ) (result : Result (List ℕ) LoadFault) (new : O) : Type 0 where
     pub opened : Result F Error
     pub answered : o.answers old to_read name opened

@@ -14,7 +14,7 @@ use Rattle.file_edge.specs.Opening.{OpensImage, image_asked}
 use Rattle.file_edge.specs.Told.{Told, contents, of_size, told_in}
 use Rattle.file_edge.specs.ToldFits.{IsWellFormed-told}
 
--- it tells what its file tells, where that has just its sectors, and shows no events
+-- the disk of a file reports what its file reports, if that has just its sectors, and shows no events
 abbrev pub file_disk_state : {F : Type 0} → (F → Option Told) → FileDisk F → DiskState
 file_disk_state told d = record {
   size = d.sectors;
@@ -25,11 +25,11 @@ file_disk_state told d = record {
   well_formed = IsWellFormed-told d.sectors (told_in told d.file) d.small;
 }
 
--- it tells all that its file tells
+-- the disk of a file reports all that its file reports
 abbrev pub TellsFile : {F : Type 0} → (F → Option Told) → FileDisk F → Type 0
 TellsFile told d = (file_disk_state told d).content ≡ contents (told_in told d.file)
 
--- no file is opened, the disk has two sectors, and it is known which file it would have been, or not
+-- no file is opened, and the disk has two sectors; which file it would have been is known, or not
 pub record IsUnopened {F : Type 0} (id : Option FileId) (disk : FileDisk F) : Type 0 where
   pub file : disk.file ≡ None
   pub sectors : disk.sectors ≡ 2
@@ -46,7 +46,7 @@ pub record IsDiskOf {F : Type 0} (file : F) (id : FileId) (size : ℕ) (disk : F
   pub small : size < 2 ^ 53 → Holds file id size disk
   pub large : 2 ^ 53 ≤ size → IsUnopened (Some id) disk
 
--- the disk of an open file whose end is there; where the end isn't found, of none
+-- the disk of an open file whose end is there; if the end isn't found, the disk of no file
 abbrev pub IsDiskTo : {F : Type 0} → F → FileId → Option ℕ → FileDisk F → Type 0
 IsDiskTo file id None disk = IsUnopened (Some id) disk
 IsDiskTo file id (Some size) disk = IsDiskOf file id size disk
@@ -57,7 +57,7 @@ pub record IsDiskOfEnd {F : Type 0} (f : image_file.Ghosts F) (file : F) (id : F
   pub found : f.ends file end
   pub holds : IsDiskTo file id end disk
 
--- the disk of an open file that may be an image; where it can't be held, of none
+-- the disk of an open file that may be an image; if it can't be locked, the disk of no file
 pub record IsDiskHeld {F : Type 0} (f : image_file.Ghosts F) (changes : Bool) (file : F) (id : FileId) (disk : FileDisk F) : Type 0 where
   pub held : Bool
   pub locked : IsLocked f.locks changes file held
@@ -99,12 +99,12 @@ module _ {F : Type 0} (f : image_file.Ghosts F) (images : List FileId) (changes 
       pub leading : o.leads before name found
       pub of_found : OpensFound name found disk
 
--- what the disk of a name asks: where the name leads, and where that may be an image to open it
+-- what the disk of a name asks: where the name leads, and, if that may be an image, to open it
 abbrev pub disk_asked : List ℕ → (changes opened written read : Bool) → List Asked
 disk_asked name changes false written read = asking (Find name) true
 disk_asked name changes true written read = asking (Find name) true ++ image_asked name changes written read
 
--- nothing else was asked
+-- what opening the disk of a name asked, and nothing else was asked
 pub record AsksDisk {O : Type 0} (log_of : O → Option (List Asked)) (opener : O) (changes : Bool) (name : List ℕ) (new : O) : Type 0 where
   pub opened : Bool
   pub written : Bool

@@ -1,4 +1,4 @@
--- What a read of a file answers, how it is held, which calls are made of it, and how failures are counted.
+-- What a read of a file returns, how it is held, which calls are made of it, and how failures are counted.
 use Rattle.std.specs.Prelude.{◌≡◌, List, [], ◌∷◌, ℕ, Bool, true, false, Option, None, Some, Result, Ok, Err}
 use Rattle.block_traits.specs.Causes.{Counted}
 use Rattle.file_edge.specs.Asked.{more}
@@ -30,7 +30,7 @@ pub data Call : Type 0 where
   WriteAt : (at : ℕ) → (bytes : List ℕ) → Call
   SyncData : Call
 
--- nothing was asked of it yet, where that is told
+-- nothing was asked of the file yet, if its calls are reported
 abbrev pub IsUncalled : Option (List Call) → Type 0
 IsUncalled None = Unit {0}
 IsUncalled (Some calls) = calls ≡ []

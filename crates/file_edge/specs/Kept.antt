@@ -5,7 +5,7 @@ use Rattle.file_edge.specs.declared.ask.Ask.{Ask}
 use Rattle.file_edge.specs.declared.ask.Ask.TheVariants as asks
 use Rattle.file_edge.specs.declared.ask.KeptAsk.{KeptAsk}
 
--- the request that is kept so
+-- the request that an opener keeps in this form
 abbrev pub kept_request : Ask → FileRequest
 kept_request (asks.Find name) = Find (string_bytes name)
 kept_request (asks.Look name) = Look (string_bytes name)

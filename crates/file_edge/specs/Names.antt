@@ -1,4 +1,4 @@
--- What an opener tells of the names of files, and what its calls leave of that.
+-- What an opener reports of the names of files, and what its calls leave of that.
 use Rattle.std.specs.Prelude.{◌≡◌, ◌≢◌, ◌⊎◌, ◌&&◌, ◌||◌, ◌==◌, ℕ, List, [], ◌∷◌, ◌++◌, Bool, true, false, Option, None, Some, Result, Ok, Err, IfSome, IsErr, codes, if◌then◌else◌, option_map}
 use Rattle.std.specs.IoError.{error_kind}
 use Rattle.std.specs.Str.{bytes_eq, is_utf8}
@@ -11,7 +11,7 @@ use Rattle.file_edge.specs.declared.found.FileId.{FileId}
 use Rattle.file_edge.specs.declared.found.Found.{Found}
 use Rattle.file_edge.specs.declared.image_file.ImageFile as image_file
 
--- what a name has: nothing; a file of these bytes, and which one, where that is told; or something that can't be read
+-- what a name has: nothing; a file of these bytes, and which one, if that is reported; or something that can't be read
 pub data Named : Type 0 where
   Absent : Named
   Holds : (id : Option FileId) → (bytes : List ℕ) → Named
@@ -21,7 +21,7 @@ pub data Named : Type 0 where
 abbrev pub NameMap : Type 0
 NameMap = List ℕ → Named
 
--- what an opener tells: what each name has, and under which of them the new file stands
+-- what an opener reports: what each name has, and under which of them the new file stands
 pub record NamedFiles : Type 0 where
   pub named : NameMap
   pub fresh : List ℕ
@@ -43,7 +43,7 @@ with_new has names = record { named = with_name names.fresh has names.named; fre
 abbrev pub made_empty : List ℕ → NamedFiles → NamedFiles
 made_empty name names = record { named = with_name name (Holds None []) names.named; fresh = name }
 
--- bytes after those of a file
+-- bytes added after those of a file
 abbrev pub appended : Named → List ℕ → Named
 appended (Holds id bytes) more = Holds id (bytes ++ more)
 appended has more = has
@@ -60,7 +60,7 @@ renamed from to names = record { named = with_name to (names.named from) (with_n
 abbrev pub without_name : List ℕ → NamedFiles → NamedFiles
 without_name name names = record { named = with_name name Absent names.named; fresh = names.fresh }
 
--- a new file is made where the name has nothing, or nothing changes
+-- a new file is made if the name has nothing, or nothing changes
 abbrev pub MakesName : List ℕ → Bool → Option NamedFiles → Option NamedFiles → Type 0
 MakesName name true old new = IfSome old (λ names. names.named name ≡ Absent) × (new ≡ option_map (made_empty name) old)
 MakesName name false old new = new ≡ old
@@ -75,7 +75,7 @@ abbrev pub RenamesName : (from to : List ℕ) → Bool → Option NamedFiles →
 RenamesName from to true old new = new ≡ option_map (renamed from to) old
 RenamesName from to false old new = new ≡ old
 
--- a folder is brought to the disk, which doesn't fail where names are told
+-- a folder is brought to the disk, which doesn't fail if names are reported
 pub record SyncsNames (done : Bool) (old new : Option NamedFiles) : Type 0 where
   pub stays : new ≡ old
   pub never_fails : IfSome old (λ names. done ≡ true)
@@ -101,7 +101,7 @@ module _ {F : Type 0} (f : image_file.Ghosts F) where
     pub none : f.left file ≡ Some []
     pub fails : (most : ℕ) (read : Result (List ℕ) Error) → f.holds file most read → IsErr read
 
-  -- what is opened to be read has what the name has, and where it is refused that isn't since nothing is there
+  -- what is opened to be read has what the name has; if something is there, no refusal says that nothing is
   abbrev pub OpensWhat : Named → Result F Error → Type 0
   OpensWhat Absent (Ok file) = ⊥
   OpensWhat Absent (Err error) = Unit {0}
@@ -110,7 +110,7 @@ module _ {F : Type 0} (f : image_file.Ghosts F) where
   OpensWhat Failing (Ok file) = NeverRead file
   OpensWhat Failing (Err error) = error_kind error ≢ NotFound
 
-  -- what is opened under a name has what the name has (`OpensWhat`), where that is told
+  -- what is opened under a name has what the name has (`OpensWhat`), if that is reported
   abbrev pub OpensTold : Option NamedFiles → List ℕ → Result F Error → Type 0
   OpensTold told name opened = IfSome told (λ names. OpensWhat (names.named name) opened)
 
@@ -133,7 +133,7 @@ bytes_beside images has = None
 abbrev pub files_beside : List FileId → NameMap → Files
 files_beside images named name = if is_utf8 name then bytes_beside images (named name) else None
 
--- the files that names have beside these images, where that is told
+-- the files that names have beside these images, if that is reported
 abbrev pub told_files : List FileId → Option NamedFiles → Option Files
 told_files images told = option_map (files_beside images) (named_of told)
 
@@ -142,7 +142,7 @@ abbrev pub given_bytes : Named → List ℕ
 given_bytes (Holds id bytes) = bytes
 given_bytes has = []
 
--- what is left of the random bytes before the first of them is drawn: all that the device gives, or none where it isn't
+-- what is left of the random bytes before the first of them is drawn: all that the device gives, or none if it isn't
 -- opened
 abbrev pub IsRandom : Option NamedFiles → Option (List ℕ) → Type 0
 IsRandom told left = IfSome told (λ names. (left ≡ Some []) ⊎ (left ≡ Some (given_bytes (names.named (codes "/dev/urandom")))))

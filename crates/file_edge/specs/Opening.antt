@@ -13,26 +13,27 @@ to_read = with_read new_options true
 abbrev pub to_change : OpenOptions
 to_change = with_write to_read true
 
--- what an open of an image asks, by what was done: where it is to be changed, that, and where that is refused to read
--- it; else to read it alone
+-- what an open of an image asks, by what was done: if it is to be changed, to open it so, and if that is refused, to
+-- read it; else only to read it
 abbrev pub image_asked : List ℕ → (changes written read : Bool) → List Asked
 image_asked name false written read = asking (Open to_read name) read
 image_asked name true true read = asking (Open to_change name) true
 image_asked name true false read = asking (Open to_change name) false ++ asking (Open to_read name) read
 
--- nothing else was asked
+-- what an open of an image asked, and nothing else was asked
 pub record AsksImage {O : Type 0} (log_of : O → Option (List Asked)) (opener : O) (changes : Bool) (name : List ℕ) (new : O) : Type 0 where
   pub written : Bool
   pub read : Bool
   pub log : log_of new ≡ more (image_asked name changes written read) (log_of opener)
 
 module _ {O F : Type 0} (answers : O → OpenOptions → List ℕ → Result F Error → Type 0) where
-  -- the opener answers this to these options and this name
+  -- the opener returns this for these options and this name
   pub record OpensName (how : OpenOptions) (name : List ℕ) (opened : Result F Error) : Type 0 where
     pub opener : O
     pub answered : answers opener how name opened
 
-  -- a file that is opened to be changed; or that was refused, and then this was answered where it was to be read
+  -- a file that is opened to be changed; or opening it so was refused, and this was returned when it was opened to be
+  -- read
   abbrev pub OrReads : List ℕ → Result F Error → Result F Error → Type 0
   OrReads name (Ok file) opened = opened ≡ Ok file
   OrReads name (Err error) opened = OpensName to_read name opened
@@ -43,7 +44,7 @@ module _ {O F : Type 0} (answers : O → OpenOptions → List ℕ → Result F E
     pub answered : answers opener to_change name first
     pub next : OrReads name first opened
 
-  -- an image is opened to be changed, or else to be read; or to be read alone
+  -- an image is opened to be changed, or else to be read; or only to be read
   abbrev pub OpensImage : O → Bool → List ℕ → Result F Error → Type 0
   OpensImage opener false name opened = answers opener to_read name opened
   OpensImage opener true name opened = OpensToChange opener name opened

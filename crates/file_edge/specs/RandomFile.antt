@@ -18,7 +18,7 @@ pub record AsksDevice {O : Type 0} (log_of : O → Option (List Asked)) (opener 
   pub done : Bool
   pub log : log_of new ≡ more (asking (Open to_read (codes "/dev/urandom")) done) (log_of opener)
 
--- the bytes that are left of the device; of none that is open nothing is left
+-- the bytes that are left of the device; if none is open, nothing is left
 abbrev pub left_in : {F : Type 0} → (F → Option (List ℕ)) → Option F → Option (List ℕ)
 left_in left None = Some []
 left_in left (Some device) = left device

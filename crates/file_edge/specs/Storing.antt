@@ -22,7 +22,7 @@ met name zero = []
 met name (suc number) = met name number ++ asking (Meet 0o600 (beside_name name number)) false
 
 -- What is asked for a new file, by its name and how that ends: it takes all bytes, is synced and renamed, and the
--- folder is synced. Where one of these isn't done no other follows, but that its name is removed.
+-- folder is synced. If one of these isn't done, no other follows, except that its name is removed.
 abbrev pub moving : List ℕ → List ℕ → List ℕ → Result Unit Stop → List Asked
 moving name beside bytes (Ok done) = asking (Write bytes) true ++ asking Sync true ++ asking (Rename beside name) true ++ asking (SyncFolder name) true
 moving name beside bytes (Err stops.Written) = asking (Write bytes) false ++ asking (Remove beside) true
@@ -50,7 +50,7 @@ replacing name beside bytes (Err stops.Crowded) = []
 replacing name beside bytes (Err stops.Made) = asking (Make 0o600 beside) false
 replacing name beside bytes result = asking (Make 0o600 beside) true ++ moving name beside bytes result
 
--- how a store ends that came past its look and met so many names; it gives up where it met all
+-- how a store ends that came past its look and met so many names; it gives up if it met all
 abbrev pub IsStep : Result Unit Stop → ℕ → Type 0
 IsStep (Err stops.Named) number = ⊥
 IsStep (Err stops.Spared) number = ⊥
@@ -64,7 +64,7 @@ IsUnmade stops.Made number = Unit {0}
 IsUnmade stops.Crowded number = number ≡ 2 ^ 64 - 1
 IsUnmade stop number = ⊥
 
--- what a store answers that ended so
+-- what a store returns that ended so
 abbrev pub fault_answer : Result Unit Stop → Result Unit StoreFault
 fault_answer (Ok done) = Ok done
 fault_answer (Err stops.Memory) = Err faults.NoMemory
@@ -77,7 +77,7 @@ module _ {O : Type 0} (log_of : O → Option (List Asked)) (name : List ℕ) whe
     pub named : beside ≡ beside_name name number
     pub asked : log_of new ≡ more (met name number ++ asking (Make 0o600 beside) true) (log_of opener)
 
-  -- none was made, and why
+  -- no new file was made, and why
   pub record MakesNone (opener : O) (stop : Stop) (new : O) : Type 0 where
     pub number : ℕ
     pub unmade : IsUnmade stop number
@@ -121,7 +121,7 @@ module _ {O F : Type 0} (o : opener.Ghosts O F) (images : List FileId) where
   Stores before name bytes (Err stops.Spared) new = Spares before name new
   Stores before name bytes result new = Replaces before name bytes result new
 
-  -- a store under a name, by the answer that it gave
+  -- a store under a name, by what it returned
   pub record StoresNamedFile (before : O) (name bytes : List ℕ) (result : Result Unit StoreFault) (new : O) : Type 0 where
     pub ended : Result Unit Stop
     pub stores : Stores before name bytes ended new

@@ -1,4 +1,4 @@
--- What the calls of a reader and of a writer may answer.
+-- What the calls of a reader and of a writer may return.
 use Rattle.std.specs.Prelude.{◌≡◌, ◌-◌, ◌^◌, ℕ, zero, suc, List, take, Option, Result, Ok, Err, IfErr}
 use Rattle.std.specs.IoError.{error_kind}
 use Rattle.std.specs.Result.{result_ok}
@@ -22,8 +22,8 @@ module _ {S X : Type 0} (answers : S → Result X Error → S → Type 0) where
   AreInterrupted zero old new = new ≡ old
   AreInterrupted (suc times) old new = (last : S) × AreInterrupted times old last × IsInterrupted last new
 
-  -- One call was answered so, after those that a signal interrupted, and there was no other. The last may be
-  -- interrupted too after 2^64 - 1 such.
+  -- One call returned this, after those that a signal interrupted, and there was no other. The last may be interrupted
+  -- too, after 2^64 - 1 that were.
   pub record AnswersOnce (old : S) (answer : Result X Error) (new : S) : Type 0 where
     pub times : ℕ
     pub asked : S
@@ -31,7 +31,7 @@ module _ {S X : Type 0} (answers : S → Result X Error → S → Type 0) where
     pub answered : answers asked answer new
     pub gave_up : IfErr answer (λ error. error_kind error ≡ Interrupted → times ≡ 2 ^ 64 - 1)
 
-  -- one call was answered, as `AnswersOnce` says, and this is what was made of the answer
+  -- one call returned something, as `AnswersOnce` says, and this is what was made of it
   pub record PassesOn (old : S) (passed : Option X) (new : S) : Type 0 where
     pub answer : Result X Error
     pub once : AnswersOnce old answer new

@@ -1,11 +1,11 @@
--- What the disk of a file tells is well formed.
+-- What the disk of a file reports is well formed.
 use Rattle.std.proofs.Common.{◌≡◌, ℕ, ◌<◌, ◌^◌, ◌==◌, length, Bool, true, false, cond, Option, Some, None, refl, subst}
 use Rattle.std.proofs.lemmas.Bool.{eqb-true}
 use Rattle.block_traits.specs.Content.{Content, IsContentOf}
 use Rattle.block_traits.specs.Disk.{FitsSize, IsWellFormed}
 use Rattle.file_edge.specs.Told.{Told, contents, of_size}
 
--- a content that is told or isn't
+-- a content is reported, or isn't
 FitsSize-if : (is : Bool) (size : ℕ) (c : Content) → (is ≡ true → IsContentOf size c) → FitsSize size (cond is (Some c) None)
 FitsSize-if true size c fits = fits refl
 FitsSize-if false size c fits = tt

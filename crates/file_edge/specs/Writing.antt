@@ -10,7 +10,7 @@ StandsBeforeEnd None at count = ⊥
 StandsBeforeEnd (Some end) at count = at + count ≤ end
 
 module _ {F : Type 0} (f : image_file.Ghosts F) (at : ℕ) (bytes : List ℕ) (done : Bool) where
-  -- the bytes were to be written there, all in one, and nothing else
+  -- the bytes were to be written there by one call, and nothing else was
   pub record PutsBytesThere (old new : F) : Type 0 where
     pub answered : f.writes old at bytes done
     pub log : f.calls new ≡ more (WriteAt at bytes ∷ []) (f.calls old)
@@ -20,7 +20,7 @@ module _ {F : Type 0} (f : image_file.Ghosts F) (at : ℕ) (bytes : List ℕ) (d
     pub failed : done ≡ false
     pub log : f.calls new ≡ f.calls old
 
-  -- the bytes were to be written where the file still reaches so far
+  -- the bytes were to be written if the file still reaches so far
   pub record WritesWithin (old new : F) : Type 0 where
     pub end : Option ℕ
     pub found : f.ends old end

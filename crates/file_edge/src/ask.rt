@@ -22,7 +22,7 @@ pub enum Ask {
     Rename(String, String),
     /// The folder of the name on the disk.
     SyncFolder(String),
-    /// The name less.
+    /// A name that is removed.
     Remove(String),
 }
 

@@ -16,8 +16,9 @@ use std::alloc::Global;
 use std::fs::OpenOptions;
 use std::io::{self, ErrorKind};
 
-/// Files as an opener finds them, but for the images of the run. It tells what the opener tells of its names. It counts
-/// each failure, each file that is absent or too long, each load and each store. A name that isn't UTF-8 names no file.
+/// A cabinet of the files that an opener finds, without the images of the run. It reports what the opener reports of
+/// its names. It counts each failure, each file that is absent or too long, each load and each store. A name that isn't
+/// UTF-8 names no file.
 #[derive(Drop)]
 pub struct FileCabinet<O: Opener + Drop> {
     opener: O,
@@ -48,7 +49,7 @@ impl<O: Opener + Drop> FileCabinet<O> {
         }
     }
 
-    /// What opens the files, as the calls left it.
+    /// The opener of the files, as the calls left it.
     pub fn into_opener(self) -> O
         ensures { result ≡ self.opener }
     {
@@ -65,7 +66,7 @@ impl<O: Opener + Drop> Cabinet for FileCabinet<O> {
       stores = cabinet.stores;
     } };
 
-    /// Besides what a cabinet does: the file that is opened under the name is read, whole where it knows its bytes, and
+    /// Besides what a cabinet does: the file is opened under its name and read, whole if it knows its bytes, and
     /// nothing else is asked of the opener. An image isn't read.
     fn load(&mut self, alloc: Global, name: &[u8], limit: u64) -> Result<ByteList, LoadFault>
         ensures named { LoadsNamed (⟦<O as Opener>⟧) (⟦<O::File as ImageFile>⟧) self.old.images.items
@@ -95,8 +96,8 @@ impl<O: Opener + Drop> Cabinet for FileCabinet<O> {
         loaded
     }
 
-    /// Besides what a cabinet does: the bytes are stored in a new file beside, which then takes the name; an image, and
-    /// what is no regular file, is left as it is.
+    /// Besides what a cabinet does: the bytes are stored in a new file beside, which then takes the name. An image, or
+    /// anything but a regular file, is left as it is.
     fn store(&mut self, alloc: Global, name: &[u8], bytes: &[u8]) -> Result<(), StoreFault>
         ensures stores { StoresNamedFile (⟦<O as Opener>⟧) self.old.images.items
             self.old.opener name.now bytes.now result self.new.opener }

@@ -28,7 +28,7 @@ use crate::opener::Opener;
 use crate::opening::open_image;
 use block_traits::{Disk, DiskFailed, Event, Sector};
 
-/// The whole 512-byte pieces of a file, read and written where they stand. It tells what its file tells, shows no
+/// A disk of the whole 512-byte pieces of a file, read and written in place. It reports what its file reports, shows no
 /// events, and counts each failure and each read.
 #[derive(Drop)]
 pub struct FileDisk<F: Drop> {
@@ -45,10 +45,10 @@ impl<F: Drop> FileDisk<F> {
     ghost use Rattle.file_edge.specs.FileDisk.{AsksDisk, IsDiskHeld, IsDiskOf, IsDiskOfEnd, IsDiskOfFile};
     ghost use Rattle.file_edge.specs.FileDisk.{IsUnopened, OpensDisk, OpensFile, TellsFile};
 
-    /// The disk of a file. A file that can't be opened, that is no regular file and no block device, that is one of
-    /// these images, or of 2^53 bytes or more, is a disk of two sectors whose every call fails; so is one that is to be
-    /// changed and that another run holds. A file that is to be changed and can't be written is opened to be read, and
-    /// each write fails; one that isn't to be changed is opened to be read alone.
+    /// The disk of a file. A file that can't be opened gives a disk of two sectors whose every call fails. So does one
+    /// that is neither a regular file nor a block device, is one of these images, or has 2^53 bytes or more. So does
+    /// one that is to be changed while another run holds it. A file that is to be changed but can't be written is
+    /// opened to be read, and each write fails. One that isn't to be changed is opened only to be read.
     pub fn open<O: Opener<File = F>>(
         opener: &mut O,
         images: &[FileId],
@@ -101,7 +101,7 @@ impl<F: Drop> FileDisk<F> {
         }
     }
 
-    // The disk of a file that is open, and that was this one.
+    // The disk of an open file, whose name led to the file `id`.
     fn of_opened(file: F, images: &[FileId], changes: bool, id: FileId) -> FileDisk<F>
     where
         F: ImageFile,
@@ -200,7 +200,7 @@ impl<F: Drop> FileDisk<F> {
         }
     }
 
-    /// Which file it is, where its name led to one.
+    /// Which file it is, if its name led to one.
     pub fn id(&self) -> Option<FileId>
         ensures { result ≡ self.now.id }
     {
@@ -232,7 +232,7 @@ fn is_held<F: ImageFile>(file: &F, changes: bool) -> bool
     true
 }
 
-// Reads whole sectors all in one at a byte offset of a file, if one is open.
+// Reads whole sectors at a byte offset of a file by one call, if a file is open.
 fn read_open<F: ImageFile>(file: &mut Option<F>, at: u64, into: &mut [u8]) -> Result<(), DiskFailed>
     requires at { at % 512 ≡ 0 }
     requires whole { length into.old % 512 ≡ 0 }
@@ -250,7 +250,7 @@ fn read_open<F: ImageFile>(file: &mut Option<F>, at: u64, into: &mut [u8]) -> Re
     }
 }
 
-// Writes whole sectors all in one, where the file still reaches so far: it may have become shorter, and isn't made
+// Writes whole sectors by one call, if the file still reaches so far: it may have become shorter, and isn't made
 // longer.
 #[tactic(auto, using(crate::proofs::Left::leaves_nothing))]
 fn write_within<F: ImageFile>(file: &mut F, at: u64, from: &[u8]) -> bool
@@ -267,7 +267,7 @@ fn write_within<F: ImageFile>(file: &mut F, at: u64, from: &[u8]) -> bool
     }
 }
 
-// Writes whole sectors all in one, if a file is open and still reaches so far.
+// Writes whole sectors by one call, if a file is open and still reaches so far.
 #[tactic(auto, using(crate::proofs::Left::leaves_nothing))]
 fn write_open<F: ImageFile>(file: &mut Option<F>, at: u64, from: &[u8]) -> Result<(), DiskFailed>
     requires fits { at + length from.now ≤ 2 ^ 53 }
@@ -380,7 +380,7 @@ impl<F: ImageFile + Drop> Disk for FileDisk<F> {
         }
     }
 
-    /// Besides what a disk does: the sectors are one write of the file. Where it became shorter, so that one of them
+    /// Besides what a disk does: the sectors are one write of the file. If it became shorter, so that one of them
     /// stands beyond its end, none is written.
     fn write_sectors(&mut self, first: u64, from: &[u8]) -> Result<(), DiskFailed>
         requires whole { length from.now % 512 ≡ 0 }

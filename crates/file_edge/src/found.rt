@@ -33,7 +33,7 @@ pub struct Found {
     pub kind: FileKind,
 }
 
-/// Whether a file that is open is one of these images; one of which nothing is found may be one.
+/// Whether an open file is one of these images; a file of which nothing is found may be one.
 pub(crate) fn is_image(images: &[FileId], found: &io::Result<Found>) -> bool
     ensures { IsTrue result ↔ IsOneOfImages images.now found.now }
 {
@@ -43,7 +43,7 @@ pub(crate) fn is_image(images: &[FileId], found: &io::Result<Found>) -> bool
     }
 }
 
-/// Whether a file may be put in the place of what was found under its name.
+/// Whether a file may replace what was found under its name.
 pub(crate) fn is_replaceable(images: &[FileId], found: &io::Result<Found>) -> bool
     ensures { IsTrue result ↔ IsReplaceable images.now found.now }
 {
@@ -59,7 +59,7 @@ pub(crate) fn is_replaceable(images: &[FileId], found: &io::Result<Found>) -> bo
     }
 }
 
-/// Whether a file that is open may be an image beside these.
+/// Whether an open file may be an image beside these.
 pub(crate) fn is_free(images: &[FileId], found: &Found) -> bool
     ensures { IsTrue result ↔ IsFree images.now found.now }
 {

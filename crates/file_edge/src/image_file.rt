@@ -18,17 +18,17 @@ use std::fs::{File, OpenFile};
 use std::io::{self, Read, Seek, SeekFrom};
 use std::os::unix::fs::FileExt;
 
-/// An open file. What is asked of it is proved for every such file, so that a contract can say where a sector stands,
-/// what is brought to the disk and which bytes are loaded, although nothing tells what the system answers.
+/// An open file. What is asked of it is proved for every such file. So a contract can say where a sector stands, what
+/// is brought to the disk and which bytes are loaded, although nothing says what the system returns.
 ///
-/// A file may tell its sectors, its whole 512-byte pieces: what they held at first, and each write and sync since. It
-/// then always does, keeps their number, is changed by nobody else, and writes each sector whole or not at all. It may
-/// also tell the bytes that are left to be read from its front.
+/// A file may report its sectors, which are its whole 512-byte pieces: what they held at first, and each write and sync
+/// since. It then always does so, keeps their number, is changed by nobody else, and writes each sector whole or not at
+/// all. It may also report the bytes that are left to be read from its front.
 pub trait ImageFile: Drop {
     /// Whether this may be found of it.
     ghost tells: { Self → Result Found Error → Type 0 };
 
-    /// Whether a lock may be answered so; true: no other open file holds it.
+    /// Whether a lock may have this result; true: no other open file holds it.
     ghost locks: { Self → Bool → Type 0 };
 
     /// Whether its end may be found at this byte offset; none: it isn't found.
@@ -37,19 +37,19 @@ pub trait ImageFile: Drop {
     /// Whether bytes at a byte offset may be read as these; none: they aren't read.
     ghost reads: { Self → ℕ → Option (List ℕ) → Type 0 };
 
-    /// Whether a write of these bytes at a byte offset may be answered so; true: it is done.
+    /// Whether a write of these bytes at a byte offset may have this result; true: it is done.
     ghost writes: { Self → ℕ → List ℕ → Bool → Type 0 };
 
-    /// Whether a sync may be answered so; true: what was written is on the disk.
+    /// Whether a sync may have this result; true: what was written is on the disk.
     ghost syncs: { Self → Bool → Type 0 };
 
-    /// All that it was asked to read, to write and to sync, in order, where that is told.
+    /// All that it was asked to read, to write and to sync, in order, if that is reported.
     ghost calls: { Self → Option (List Call) };
 
-    /// What its sectors held at first and what was done to them since, where that is told.
+    /// What its sectors held at first and what was done to them since, if that is reported.
     ghost told: { Self → Option Told };
 
-    /// The bytes that are left to be read from its front, where that is told.
+    /// The bytes that are left to be read from its front, if that is reported.
     ghost left: { Self → Option (List ℕ) };
 
     /// Whether so many bytes may be filled with these, and what the file then is; none: that fails.
@@ -62,7 +62,7 @@ pub trait ImageFile: Drop {
     fn found(&self) -> io::Result<Found>
         ensures { tells self.now result };
 
-    /// Locks it, without waiting, for as long as it is open. That comes before all that is noted of its calls.
+    /// Locks it, without waiting, for as long as it is open. It is locked before any call is noted.
     fn lock(&self) -> io::Result<()>
         requires uncalled { IsUncalled (calls self.now) }
         ensures { locks self.now (is_ok result) };
@@ -81,7 +81,7 @@ pub trait ImageFile: Drop {
         ensures bytes { OnOk result (ReadsTold (told self.old) at into.new) }
         ensures told { contents (told self.new) ≡ contents (told self.old) };
 
-    /// Writes whole sectors at a byte offset. Where that failed, some of the first were written and nothing else.
+    /// Writes whole sectors at a byte offset. If that failed, some of the first were written and nothing else.
     fn write_bytes(&mut self, at: u64, from: &[u8]) -> io::Result<()>
         requires at { at % 512 ≡ 0 }
         requires whole { length from.now % 512 ≡ 0 }
@@ -90,14 +90,14 @@ pub trait ImageFile: Drop {
         ensures told { Leaves (write_events (at / 512) from.now) (at / 512 + length from.now / 512) (is_ok result)
             (contents (told self.old)) (contents (told self.new)) };
 
-    /// Brings what was written to the disk. A failed sync was done or wasn't.
+    /// Brings what was written to the disk. A sync that failed was done or wasn't.
     fn sync(&mut self) -> io::Result<()>
         ensures syncs { syncs self.old (is_ok result) }
         ensures calls { calls self.new ≡ more (SyncData ∷ []) (calls self.old) }
         ensures told { Leaves (Flush ∷ []) 0 (is_ok result) (contents (told self.old)) (contents (told self.new)) };
 
-    /// Fills all of `into` with the first bytes that are left. A failure takes none of those that are told, and `into`
-    /// may then hold any bytes.
+    /// Fills all of `into` with the first bytes that are left. A failure takes none of the bytes that are reported, and
+    /// `into` may then hold any bytes.
     fn fill_all(&mut self, into: &mut [u8]) -> io::Result<()>
         ensures fills { fills (length into.old) self.old (read_bytes result into.new) self.new }
         ensures ok { OnOk result (left self.old ≡ prepend_known into.new (left self.new)) }
@@ -109,7 +109,7 @@ pub trait ImageFile: Drop {
         ensures known { IfOk result (λ bytes. IfSome (left self) (λ left. bytes ≡ take most left)) };
 }
 
-/// A file of the system. It tells nothing of its answers, and not what it has.
+/// A file of the system. It reports neither its results nor what it holds.
 impl ImageFile for File {
     ghost tells = { λ _ _. Unit {0} };
 

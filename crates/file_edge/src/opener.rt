@@ -20,16 +20,16 @@ use std::os::unix::fs::{FileTypeExt, MetadataExt, OpenOptionsExt};
 use std::rt::Files;
 
 /// What opens files by their names, and puts new ones in the place of others. Each use of it is proved for every
-/// opener, so that what is asked of it, in which order, can be said in a contract although nothing tells what the
-/// system answers.
+/// opener. So a contract can say what is asked of it, and in which order, although nothing says what the system
+/// returns.
 ///
-/// An opener may tell what its names have, the random device among them. It then always does, no other call than these
-/// changes what a name has, and no sync of a folder fails.
+/// An opener may report what its names have, the random device among them. It then always does so, only the calls below
+/// change what a name has, and no sync of a folder fails.
 pub trait Opener {
     /// An open file.
     type File: ImageFile + 'static;
 
-    /// Whether it may answer this to these options and this name.
+    /// Whether it may return this for these options and this name.
     ghost answers: { Self → OpenOptions → List ℕ → Result Self.File Error → Type 0 };
 
     /// Whether a name may lead to this, through links.
@@ -38,13 +38,13 @@ pub trait Opener {
     /// Whether it may find this under a name.
     ghost finds: { Self → List ℕ → Result Found Error → Type 0 };
 
-    /// All that it was asked, in order, where that is told.
+    /// All that it was asked, in order, if that is reported.
     ghost asked: { Self → Option (List Asked) };
 
     /// How often it has refused to open a file, which never falls.
     ghost refusals: { Self → ℕ };
 
-    /// What its names have, and which of them the new file has, where that is told.
+    /// What its names have, and which of them the new file has, if that is reported.
     ghost told: { Self → Option NamedFiles };
 
     /// Opens the file of this name. Nothing was asked of it yet.
@@ -68,7 +68,7 @@ pub trait Opener {
         ensures told { told self.new ≡ told self.old }
         ensures asked { asked self.new ≡ more (asking (Look name.now) true) (asked self.old) };
 
-    /// Makes a file of this name, with these permissions, where nothing has the name: the new file of the next calls.
+    /// Makes a file of this name, with these permissions, if nothing has the name: the new file of the next calls.
     /// `AlreadyExists`: something has it.
     fn make(&mut self, mode: u32, name: &str) -> io::Result<()>
         ensures told { MakesName name.now (is_ok result) (told self.old) (told self.new) }
@@ -100,7 +100,7 @@ pub trait Opener {
         ensures asked { asked self.new ≡ more (asking (Remove name.now) true) (asked self.old) };
 }
 
-/// The files of the system. It tells nothing of its answers and of what names have, and counts each refusal.
+/// The files of the system. This opener reports neither its results nor what names have, and counts each refusal.
 #[derive(Drop)]
 pub struct SystemFiles<R: Files<File = File> + Drop> {
     rt: R,

@@ -7,7 +7,7 @@ use crate::opener::Opener;
 use std::fs::OpenOptions;
 use std::io;
 
-/// Opens an image to be read and written, or, where that isn't asked for or is refused, to be read.
+/// Opens an image to be read and written; or only to be read, if writing isn't asked for or is refused.
 pub(crate) fn open_image<O: Opener>(
     opener: &mut O,
     changes: bool,

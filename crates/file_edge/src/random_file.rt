@@ -9,7 +9,7 @@ use crate::opener::Opener;
 use block_traits::{Entropy, EntropyFailed};
 use std::fs::OpenOptions;
 
-/// `/dev/urandom` as entropy. It tells the bytes that are left where its device does, and counts each failure and each
+/// `/dev/urandom` as entropy. It reports the bytes that are left if its device does, and counts each failure and each
 /// call.
 #[derive(Drop)]
 pub struct RandomFile<F: ImageFile> {
@@ -22,7 +22,7 @@ impl<F: ImageFile + 'static> RandomFile<F> {
     ghost use Rattle.file_edge.specs.Names.{IsRandom};
     ghost use Rattle.file_edge.specs.RandomFile.{AsksDevice, OpensDevice, left_in};
 
-    /// Opens the device. Where it can't be opened, each call fails, and nothing is left.
+    /// Opens the device. If it can't be opened, each call fails, and nothing is left.
     pub fn open<O: Opener<File = F>>(opener: &mut O) -> RandomFile<F>
         ensures opens { OpensDevice O.answers opener.old result }
         ensures left { IsRandom (O.told opener.old) (left_in F.left result.device) }
@@ -50,7 +50,7 @@ impl<F: ImageFile> Entropy for RandomFile<F> {
       calls = random.calls;
     } };
 
-    /// Besides what entropy does: it returns what the device returned, and fails only where that failed or there is
+    /// Besides what entropy does: it returns what the device returned, and fails only if the device failed or there is
     /// none.
     fn fill(&mut self, into: &mut [u8]) -> Result<(), EntropyFailed>
         ensures ok { OnOk result (left_in F.left self.old.device

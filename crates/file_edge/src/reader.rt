@@ -1,4 +1,4 @@
-//! What gives bytes and what takes them, by what one call may answer.
+//! Readers and writers, by what one call of them may return.
 ghost use Rattle.std.specs.Prelude.{◌≤◌, ℕ, IfOk, List, Result, length};
 ghost use Rattle.std.specs.Io.KnownBytes.{ReadConsumes, WriteAppends};
 ghost use Rattle.std.specs.declared.io.Error.{Error};
@@ -6,8 +6,8 @@ ghost use Rattle.file_edge.specs.Streams.{given};
 
 use std::io::{self, Read, Write};
 
-/// A reader that says what a call may answer. What is asked of it is proved for every such reader, so that a contract
-/// can say that it failed, although nothing tells what the system answers.
+/// A reader that says what a call may return. What is asked of it is proved for every such reader. So a contract can
+/// say that it failed, although nothing says what the system returns.
 pub trait Reader: Read + Drop {
     /// Whether one read of at most so many bytes may give these, and what the reader then is.
     ghost gives: { ℕ → Self → Result (List ℕ) Error → Self → Type 0 };
@@ -19,7 +19,7 @@ pub trait Reader: Read + Drop {
         ensures known { ReadConsumes (Self.remaining self.old) (Self.remaining self.new) result into.new };
 }
 
-/// Any reader, which tells nothing of its answers.
+/// Any reader, which says nothing about its results.
 impl<R: Read + Drop> Reader for R {
     ghost gives = { λ _ _ _ _. Unit {0} };
 
@@ -28,7 +28,7 @@ impl<R: Read + Drop> Reader for R {
     }
 }
 
-/// A writer that says what a call may answer, as `Reader` does.
+/// A writer that says what a call may return, as `Reader` does.
 pub trait Writer: Write + Drop {
     /// Whether one write of these bytes may take so many, and what the writer then is.
     ghost takes: { List ℕ → Self → Result ℕ Error → Self → Type 0 };
@@ -40,7 +40,7 @@ pub trait Writer: Write + Drop {
         ensures known { WriteAppends (Self.contents self.old) (Self.contents self.new) result from.now };
 }
 
-/// Any writer, which tells nothing of its answers.
+/// Any writer, which says nothing about its results.
 impl<W: Write + Drop> Writer for W {
     ghost takes = { λ _ _ _ _. Unit {0} };
 

@@ -11,7 +11,7 @@ use itoa::Buffer;
 use std::alloc::{AllocError, Global};
 use std::io::{self, ErrorKind};
 
-/// What of a store wasn't done.
+/// Which part of a store wasn't done.
 #[derive(Clone, Copy, Debug, PartialEq, Eq)]
 pub enum Stop {
     /// The name is no text.

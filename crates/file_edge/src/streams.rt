@@ -9,7 +9,7 @@ use crate::reader::{Reader, Writer};
 use block_traits::{Sink, SinkFailed, Source, SourceFailed};
 use std::io::{self, ErrorKind};
 
-/// A reader as a source. It tells no content, and counts each failure, and each call that met the end.
+/// A reader as a source. It reports no content, and counts each failure, and each call that met the end.
 #[derive(Drop)]
 pub struct InputSource<R: Reader> {
     reader: R,
@@ -40,9 +40,9 @@ impl<R: Reader> Source for InputSource<R> {
       ends = source.ends;
     } };
 
-    /// Besides what a source does: it returns what one read of the reader returned, made again only where a signal
-    /// interrupted it, and fails only where that failed. Where the reader knows its bytes, they are given, and 0 only
-    /// at their end.
+    /// Besides what a source does: it returns what one read of the reader returned, made again only if a signal
+    /// interrupted it, and fails only if that failed. If the reader knows its bytes, they are given, and 0 only at
+    /// their end.
     fn take(&mut self, into: &mut [u8]) -> Result<usize, SourceFailed>
         requires { 0 < length into.old }
         ensures bound { IfOk result (λ k. k ≤ length into.new) }
@@ -70,7 +70,7 @@ impl<R: Reader> Source for InputSource<R> {
     }
 }
 
-// Reads, and again where a signal interrupts it.
+// Reads, and again if a signal interrupts it.
 #[tactic(auto, using(crate::proofs::Kept::keeps_same, crate::proofs::Kept::keeps_then, crate::proofs::Kept::kept_read, crate::proofs::Turns::one_more))]
 fn read_on<R: Reader>(reader: &mut R, into: &mut [u8]) -> io::Result<usize>
     ensures bound { IfOk result (λ k. k ≤ length into.new) }
@@ -88,8 +88,7 @@ fn read_on<R: Reader>(reader: &mut R, into: &mut [u8]) -> io::Result<usize>
     reader.read_once(into)
 }
 
-/// A writer as a sink. It tells no content, and counts each failure, and each piece of which nothing
-/// is taken.
+/// A writer as a sink. It reports no content, and counts each failure, and each piece of which nothing is taken.
 #[derive(Drop)]
 pub struct OutputSink<W: Writer> {
     writer: W,
@@ -115,9 +114,8 @@ impl<W: Writer> OutputSink<W> {
 impl<W: Writer> Sink for OutputSink<W> {
     ghost state = { λ sink. record { taken = None; faults = sink.faults; refused = sink.faults; idle = sink.idle } };
 
-    /// Besides what a sink does: it returns what one write of the writer returned, made again only where a signal
-    /// interrupted it, and fails only where that failed. Where the writer knows its bytes, those that are taken follow
-    /// them.
+    /// Besides what a sink does: it returns what one write of the writer returned, made again only if a signal
+    /// interrupted it, and fails only if that failed. If the writer knows its bytes, those that are taken follow them.
     fn give(&mut self, from: &[u8]) -> Result<usize, SinkFailed>
         ensures bound { IfOk result (λ k. k ≤ length from.now) }
         ensures known { WriteAppends (W.contents self.old.writer) (W.contents self.new.writer) result from.now }
@@ -147,7 +145,7 @@ impl<W: Writer> Sink for OutputSink<W> {
     }
 }
 
-// Writes, and again where a signal interrupts it.
+// Writes, and again if a signal interrupts it.
 #[tactic(auto, using(crate::proofs::Kept::keeps_same, crate::proofs::Kept::keeps_then, crate::proofs::Kept::kept_write, crate::proofs::Turns::one_more))]
 fn write_on<W: Writer>(writer: &mut W, from: &[u8]) -> io::Result<usize>
     ensures bound { IfOk result (λ k. k ≤ length from.now) }

@@ -22,7 +22,7 @@ fn status_of<S: Drop, C: Drop, E: Drop, X: Drop>(ran: Result<(Status, S, C, E), 
 
 fn main(rt: HostRuntime) -> ExitCode {
     let alloc = rt.alloc();
-    // Where standard streams are closed, these take their numbers, and no file of the run does.
+    // If standard streams are closed, these take their numbers, so that no file of the run does.
     let _first = File::open(&rt, "/dev/null");
     let _second = File::open(&rt, "/dev/null");
     let _third = File::open(&rt, "/dev/null");

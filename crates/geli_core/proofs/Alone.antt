@@ -18,11 +18,11 @@ use Rattle.geli_core.specs.Vocabulary.{IsWritten, ReapRow, ReapsRequest, StepRow
 use Rattle.geli_core.proofs.Owning.{at_attached}
 use Rattle.geli_core.proofs.Requested.{Asks, reap_asks, step_asks, submit_asks}
 
--- what is attached, and its disk
+-- what is attached, with its disk, as requests in flight see it
 abbrev flight : Attachment → DiskState → InFlight
 flight a d = record { queue = a.queue; keying = a.keying; readonly = a.readonly; disk = d }
 
--- ---- its steps
+-- ---- the steps of a request
 
 record Through (tag many : ℕ) (a : Attachment) (old new : Reach) : Type 0 where
   last : Attachment
@@ -45,7 +45,7 @@ through tag (suc many) a old new is h =
           record { last = rest.last; is = rest.is; steps = (flight (with_queue s.queue a) h.0.disk, h.1, on, record { keying = refl; readonly = refl }, rest.steps) }
     ]
 
--- ---- what it comes to
+-- ---- what a request comes to
 
 job_of-work : (number : ℕ) (job : Job) (from : List ℕ) → job_of (work_of number job from) ≡ job
 job_of-work number (jobs.Read sector count) from = refl
@@ -56,7 +56,7 @@ ok_tag : (tag : ℕ) (found : Result ℕ SubmitFault) → Ok tag ≡ or_refusal 
 ok_tag tag (Ok n) h = (let same : tag ≡ n = cc h in ap (λ (k : ℕ). Ok k) (sym same))
 ok_tag tag (Err fault) h = absurd (let differ : ⊥ = cc h in differ)
 
--- the answer of a read
+-- what a read returns
 read_as : (line : List ℕ) (sector count : ℕ) (a : Attachment) (old new : Reach) (last : InFlight) (from before after : List ℕ) (tag : ℕ) (said : Result Reaped ReapFault) → last.disk ≡ new.disk → DoesAsProvider (jobs.Read sector count) from before after said (flight a old.disk) last
     → DoesAsLine line (words.Read sector count) a old (reap_answer tag after said) new
 read_as line sector count a old new last from before after tag (Ok (given.Bytes many)) same h =
@@ -69,7 +69,7 @@ read_as line sector count a old new last from before after tag (Err (reap.Integr
 read_as line sector count a old new last from before after tag (Err reap.NoRequest) same h = absurd h.1
 read_as line sector count a old new last from before after tag (Err (reap.NotDone left)) same h = absurd h.1
 
--- of each job, which is that of the line
+-- a request of each kind of job does what the line does
 does_as : (line : List ℕ) (asked : JobWords) (a : Attachment) (old new : Reach) (last : InFlight) (job : Job) (from before after : List ℕ) (tag : ℕ) (said : Result Reaped ReapFault) → work_in 0 a.keying line asked ≡ work_of 0 job from → last.disk ≡ new.disk
     → DoesAsProvider job from before after said (flight a old.disk) last → DoesAsLine line asked a old (reap_answer tag after said) new
 does_as line (words.Read sector count) a old new last (jobs.Read first many) from before after tag said work same h =

@@ -1,4 +1,4 @@
--- What a run answers of failures is counted by what failed, the closing of the drawers with it.
+-- What a run prints about failures is counted by what failed, also by the closing of the drawers.
 use Rattle.std.proofs.Common.{◌≡◌, ◌∙◌, ◌⊎◌, inl, inr, ℕ, ◌+◌, ◌-◌, ◌≤◌, zero, suc, List, [], ◌∷◌, refl, ap, sym, subst, arith, Bool, true, false, cond, Option, None, Some, slice_get, ◌<◌, ◌^◌}
 use Rattle.std.specs.Option.{option_map}
 use Rattle.std.specs.Str.{bytes_eq}
@@ -68,7 +68,7 @@ flush_rose : (failed : Bool) (old new : DiskState) → Flushes failed old new �
 flush_rose false old new h is = absurd (let none : ⊥ = cc is in none)
 flush_rose true old new h is = h.rose
 
--- where the closing of a drawer failed, its disk's count rose
+-- if the closing of a drawer failed, its disk's count rose
 closing_rose : (idle : Bool) (old : DrawerState) (failed : Bool) (new : DrawerState) → ClosesAs idle old failed new → failed ≡ true → Rose old.disk.faults new.disk.faults
 closing_rose true old failed new h is = absurd (let none : ⊥ = cc (h.0, is) in none)
 closing_rose false old failed new h is = flush_rose failed old.disk new.disk h.0 is

@@ -33,7 +33,7 @@ one_traced line old middle new source status answer failed serves closes ended p
   runs = record { answer = answer; next = middle.world; failed = failed; is = refl; prints = prints; source = refl; ended = ended };
 }
 
--- all was printed
+-- all of the command was served and printed
 one_whole : (line : List ℕ) (command : Command) (old middle new : SiteState) (source : SourceState) (answer : Answer) (failed : ℕ) (all : Bool) → ServesLine Zeros line old.world (Some answer) middle.world
     → ClosesWorld middle.world failed new.world → (refuses (Some answer) || any_refused (closing_answers failed)) ≡ all → TookAll (text_of (Some answer)) old.sink middle.sink
     → TookAll (answers_text (closing_answers failed)) middle.sink new.sink → RunsUnless (Traced (RunsLine line (Some command))) (whole_of old source) (status_by all) (whole_of new source)
@@ -91,7 +91,7 @@ broke line command old middle new source (Some answer) end failed answered serve
     let here : TookPart (text_of (Some answer)) old.sink new.sink = subst (λ (s : SinkState). TookPart (text_of (Some answer)) old.sink s) (sym same) part in
     one_traced line old middle new source WriteFault answer failed serves closes tt (inl (record { printed = []; last = answer; are = refl; middle = old.sink; before = TookAll-nothing old.sink; part = here }))
 
--- the command was served, and its answer was not printed
+-- the command was served, and its reply was not printed
 pub broke_command : (line : List ℕ) (command : Command) (old middle new : SiteState) (source : SourceState) (end : WriteEnd) (failed : ℕ) → command_in line ≡ Some command
     → ServesAndPrints Zeros line old.world old.sink (Err end) middle.world middle.sink → ClosesWorld middle.world failed new.world → new.sink ≡ middle.sink
     → RunsUnless (Traced (RunsLine line (Some command))) (whole_of old source) WriteFault (whole_of new source)

@@ -1,4 +1,4 @@
--- The lines that are answered that a disk failed are counted by its faults.
+-- The lines that are answered with a failure of a disk are counted by its faults.
 use Rattle.std.proofs.Common.{◌≡◌, ◌∙◌, ◌⊎◌, inl, inr, ℕ, ◌+◌, ◌-◌, ◌≤◌, zero, suc, List, [], ◌∷◌, refl, ap, sym, subst, arith, Bool, true, false, cond, Option, None, Some, Result, Ok, Err, slice_get, ◌<◌, ◌^◌, ◌&&◌, MatchOption, option_and_then}
 use Rattle.std.specs.List.{AllByRecursion, remove}
 use Rattle.std.specs.Option.{option_map}
@@ -308,7 +308,7 @@ line_read (Ok (Some command)) line name None old new n before differ stands foun
 line_read (Ok (Some command)) line name (Some said) old new n before differ stands found h =
     line_placed line name command said old new n before (place_named line command old.drawers) differ stands found refl h (turn_only_steps line command old said new h)
 
--- ---- lines where no drawer has the name
+-- ---- lines when no drawer has the name
 
 unknown_by : (At : World → Answer → World → ℕ → Type 0) (old : World) (said : Answer) (new : World) (place : Option ℕ) → place ≡ None → MatchOption place (IsUnknown old said new) (At old said new)
     → said ≡ answers.Refused refusals.UnknownProvider

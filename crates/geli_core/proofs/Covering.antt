@@ -55,7 +55,7 @@ covered_later told sep lines old new m last s there h =
 
 -- ---- a write that was reaped
 
--- when it was reaped, each of its units was done
+-- when a write was reaped, each of its units was done
 reap_done : (Fresh : Type 0) (c : Content) (m : Play) (line : List ℕ) (prov : Span) (tag : ℕ) (start next : World) (before : DrawerState) (place : Option ℕ) → place_of (bytes_at line prov) start.drawers ≡ place → option_and_then (slice_get start.drawers) place ≡ Some before
     → ServesReading (Ok (Some (commands.Reap prov tag))) line start (Some answers.Done) next → Follows Fresh c m before.holding before.disk → AttachedWith before.holding (λ a. IsDoneAsAsked tag a.keying c m)
 reap_done Fresh c m line prov tag start next before None at there h f = absurd (let none : ⊥ = cc there in none)

@@ -224,12 +224,12 @@ each_same Gone (d ∷ ds) = inl (grew_same d, each_same Gone ds)
 each_as : (Gone : List ℕ → Type 0) (old new : World) → new ≡ old → EachGrew Gone old.drawers new.drawers
 each_as Gone old new is = rw is (each_same Gone old.drawers)
 
--- one more that is gone
+-- one more drawer that is gone
 each_left : (Gone : List ℕ → Type 0) (o : DrawerState) (os news : List DrawerState) → Gone o.name → EachGrew Gone os news → EachGrew Gone (o ∷ os) news
 each_left Gone o os [] gone h = (gone, h)
 each_left Gone o os (n ∷ ns) gone h = inr (gone, h)
 
--- one more that was there, and then grew or is gone
+-- one more drawer that was there, and then grew or is gone
 each_kept : (Gone : List ℕ → Type 0) (o m : DrawerState) (os ms news : List DrawerState) → Grew o m → ((others : List DrawerState) → EachGrew Gone ms others → EachGrew Gone os others) → EachGrew Gone (m ∷ ms) news → EachGrew Gone (o ∷ os) news
 each_kept Gone o m os ms [] grew rest b = (subst Gone grew.name b.0, rest [] b.1)
 each_kept Gone o m os ms (n ∷ ns) grew rest (inl b) = inl (grew_then o m n grew b.0, rest ns b.1)
@@ -242,7 +242,7 @@ each_then Gone (o ∷ os) [] news a b = each_left Gone o os news a.0 (each_then 
 each_then Gone (o ∷ os) (m ∷ ms) news (inl a) b = each_kept Gone o m os ms news a.0 (λ others. each_then Gone os ms others a.1) b
 each_then Gone (o ∷ os) (m ∷ ms) news (inr a) b = each_left Gone o os news a.0 (each_then Gone os (m ∷ ms) news a.1 b)
 
--- more may be gone
+-- more names may be gone
 each_weaker : (Gone More : List ℕ → Type 0) (olds news : List DrawerState) → ((name : List ℕ) → Gone name → More name) → EachGrew Gone olds news → EachGrew More olds news
 each_weaker Gone More [] [] more h = tt
 each_weaker Gone More [] (n ∷ ns) more h = absurd h
@@ -256,7 +256,7 @@ each_set Gone [] place before after found grew = absurd (let none : ⊥ = cc fou
 each_set Gone (d ∷ ds) zero before after found grew = inl (subst (λ (x : DrawerState). Grew x after) (sym (same_some d before found)) grew, each_same Gone ds)
 each_set Gone (d ∷ ds) (suc place) before after found grew = inl (grew_same d, each_set Gone ds place before after found grew)
 
--- one is taken out
+-- one drawer is taken out
 each_removed : (Gone : List ℕ → Type 0) (drawers : List DrawerState) (place : ℕ) (before : DrawerState) → slice_get drawers place ≡ Some before → Gone before.name → EachGrew Gone drawers (remove drawers place)
 each_removed Gone [] place before found gone = absurd (let none : ⊥ = cc found in none)
 each_removed Gone (d ∷ ds) zero before found gone = each_left Gone d ds ds (subst (λ (x : DrawerState). Gone x.name) (sym (same_some d before found)) gone) (each_same Gone ds)
@@ -295,7 +295,7 @@ any_behind : (a b : Bool) → b ≡ true → (a || b) ≡ true
 any_behind true b h = refl
 any_behind false b h = h
 
--- one of the lines does
+-- one of the lines takes the drawer with this name out
 abbrev AnyOut : Sep → List ServedLine → List ℕ → Type 0
 AnyOut sep lines name = list_any (λ (l : ServedLine). ejected sep l name) lines ≡ true
 

@@ -103,7 +103,7 @@ traced old middle new source after status served failed run closes runs = record
   runs = runs;
 }
 
--- all was printed
+-- all of a script was served and printed
 ended_by : (bytes : List ℕ) (old middle new : SiteState) (source after : SourceState) (h : ServesAll bytes old middle) (failed : ℕ) (all : Bool) → length bytes < script_limit → IsAtEnd after.left → MetEnd source after
     → source.left ≡ prepend_known bytes after.left → ClosesWorld middle.world failed new.world → any_refused (answers_of h.served ++ closing_answers failed) ≡ all
     → TookAll (answers_text (answers_of h.served ++ closing_answers failed)) old.sink new.sink → Traced RunsScript (whole_of old source) (status_by all) (whole_of new after)
@@ -241,7 +241,7 @@ ended_long bytes old middle new source after failed h limit gave met closes same
   prints = subst (λ (s : SinkState). TookAll (answers_text (answers_of h.stops.served.serves.served)) old.sink s) (sym same) h.stops.served.printed;
 })
 
--- an answer was not printed
+-- a reply was not printed
 pub ended_broken : (bytes : List ℕ) (old middle new : SiteState) (source after : SourceState) (failed : ℕ) → StopsWithin bytes old Unprinted middle → length bytes ≤ script_limit → source.left ≡ prepend_known bytes after.left → MetNothing source after
     → ClosesWorld middle.world failed new.world → new.sink ≡ middle.sink → Traced RunsScript (whole_of old source) WriteFault (whole_of new after)
 ended_broken bytes old middle new source after failed h limit gave met closes same =

@@ -30,7 +30,7 @@ logged_fit c steps events d new told logs =
     let fits : IsContentOf new.size (record { base = c.base; history = (c.history ++ events_of steps) ++ events }) = subst (FitsSize new.size) now new.well_formed.fits in
     subst (λ (n : ℕ). All (IsEventOf n) events) (sym fits.sectors) (All-rest (IsEventOf new.size) (c.history ++ events_of steps) events fits.events)
 
--- what it tells then
+-- what a disk reports after these steps
 pub told_on : (c : Content) (steps more : List Step) (d new : DiskState) → d.content ≡ Some (after steps c) → Logs (events_of more) d new → new.content ≡ Some (after (steps ++ more) c)
 told_on c steps more d new told logs =
     logs.content ∙ ap (logged (events_of more)) told
@@ -38,14 +38,14 @@ told_on c steps more d new told logs =
 
 -- ---- an attached drawer
 
--- the tasks are requests of the queue, by their tags, and its only ones where it had none at first
+-- the tasks are requests of the queue, by their tags, and its only ones if it had none at first
 pub record Tracks (Fresh : Type 0) (c : Content) (m : Play) (k : Keying) (queue : List Request) (d : DiskState) : Type 0 where
   pub shows : Shows k c m (map (request_of k) m.tasks) d
   pub within : IsWithin (map (request_of k) m.tasks) queue
   pub apart : AreApart (map (request_of k) m.tasks)
   pub whole : Fresh → queue ≡ map (request_of k) m.tasks
 
--- events of its disk that come in some other way
+-- events of the drawer's disk that come in some other way
 pub tracks_raw : (Fresh : Type 0) (c : Content) (m : Play) (k : Keying) (queue : List Request) (d new : DiskState) (events : List Event) → Tracks Fresh c m k queue d → Logs events d new → Tracks Fresh c (goes_on (raw_steps events) m.tasks m) k queue new
 tracks_raw Fresh c m k queue d new events t logs = record {
   shows = higher_number k c (record { steps = m.steps ++ raw_steps events; tasks = m.tasks; next = m.next }) (map (request_of k) m.tasks) new (m.next + 1)
@@ -73,7 +73,7 @@ asked-shown k tag next (job.Write sector count) from =
     λ i. record { tag = tag; job = job.Write sector count; done = 0; units = count * units k; device = sealed-shown next k sector count from i }
 asked-shown k tag next job.Flush from = refl
 
--- the play of it
+-- the play after a request was submitted
 open_still : (k : Keying) (c : Content) (m : Play) (new : Task) → IsPlay k c m → IsOpenTask k c m.steps new → PlacesAmong k (placed (pending k m.tasks)) new → IsPlay k c (record { steps = m.steps; tasks = put_task new m.tasks; next = m.next })
 open_still k c m new play is among = record {
   keying = play.keying;
@@ -168,7 +168,7 @@ tracks_stepped Fresh c m k queue more d new tag left task t known h =
       whole = λ fresh. h.queue ∙ ap (exchanged r) (t.whole fresh) ∙ shown;
     }
 
--- of a request that was open before
+-- a request that was open before the run
 none_fresh : (Fresh : Type 0) (c : Content) (m : Play) (k : Keying) (queue : List Request) (d : DiskState) (tag : ℕ) (r : Request) → Tracks Fresh c m k queue d → task_with tag m.tasks ≡ None → request_with tag queue ≡ Some r → Fresh → ⊥
 none_fresh Fresh c m k queue d tag r t unknown found fresh =
     let none : request_with tag queue ≡ None = ap (request_with tag) (t.whole fresh) ∙ none_few k tag m.tasks unknown in
@@ -200,7 +200,7 @@ same_length (suc a) zero (x ∷ xs) h = absurd (omega (arith, h))
 same_length (suc a) (suc b) [] h = refl
 same_length (suc a) (suc b) (x ∷ xs) h = ap (λ l. x ∷ l) (same_length a b xs (omega (arith, h)))
 
--- so many events as the disk tells of steps
+-- there are as many events as the disk reports of steps
 as_many : (c : Content) (steps more : List Step) (events : List Event) (d new : DiskState) → d.content ≡ Some (after steps c) → Logs events d new → new.content ≡ Some (after (steps ++ more) c) → length more ≡ length events
 as_many c steps more events d new told logs then =
     let both : Some (after (steps ++ more) c) ≡ logged events (Some (after steps c)) = sym then ∙ logs.content ∙ ap (logged events) told in
@@ -270,7 +270,7 @@ without_none : (tag : ℕ) (tasks : List Task) → task_with tag tasks ≡ None 
 without_none tag [] h = refl
 without_none tag (x ∷ tasks) h = without_step tag x tasks (x.tag == tag) (without_none tag tasks) h
 
--- the play of it, as the law of the queue has it of the tasks alone
+-- the play after a request is reaped, as the law of the queue says it of the tasks alone
 tracks_left : (Fresh : Type 0) (c : Content) (m : Play) (k : Keying) (queue more : List Request) (d : DiskState) (tag : ℕ) → Tracks Fresh c m k queue d → more ≡ without tag queue → Shows k c (reaped tag m) (without tag (map (request_of k) m.tasks)) d
     → Tracks Fresh c (goes_on [] (without_task tag m.tasks) m) k more d
 tracks_left Fresh c m k queue more d tag t is shows =
@@ -290,7 +290,7 @@ pub record Reaps (Fresh : Type 0) (c : Content) (m : Play) (k : Keying) (more : 
   pub tracks : Tracks Fresh c (goes_on [] (without_task tag m.tasks) m) k more d
   pub gives : (task : Task) → task_with tag m.tasks ≡ Some task → P task.work
 
--- of a request that was open before
+-- a request that was open before the run is reaped
 reaps_other : (Fresh : Type 0) (c : Content) (m : Play) (k : Keying) (queue more : List Request) (d : DiskState) (tag : ℕ) (Q : Request → Type 0) (P : Work → Type 0) → Tracks Fresh c m k queue d → TakesOut tag queue more Q → task_with tag m.tasks ≡ None
     → Reaps Fresh c m k more d tag P
 reaps_other Fresh c m k queue more d tag Q P t h unknown =

@@ -1,5 +1,5 @@
 -- What a line leaves attached: only `submit`, `step` and `reap` change the open requests of a drawer that stays
--- attached, and none is open where it wasn't attached before.
+-- attached, and none is open if it wasn't attached before.
 use Rattle.std.proofs.Common.{List, ap, false, inl, ℕ, ◌≡◌}
 use Rattle.command_rows.specs.Rows.{Answer, Reach, bytes_spelled}
 use Rattle.command_rows.specs.Vocabulary.{Command, Span, bytes_at}

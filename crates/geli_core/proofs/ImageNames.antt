@@ -31,7 +31,7 @@ differ_by (n ∷ names) (d ∷ disks) h =
     let p = and_parts (not (list_any (bytes_eq n) names)) (all_differ names) h in
     (none_named n names disks (not_true (list_any (bytes_eq n) names) p.0), differ_by names disks p.1)
 
--- a name at most, or those of a script
+-- one name at most, or those of a script
 abbrev AreFew : List (List ℕ) → Type 0
 AreFew names = (all_differ names ≡ true) × (length names ≤ 16)
 
@@ -64,7 +64,7 @@ as_many [] disks = omega arith
 as_many (n ∷ names) [] = omega arith
 as_many (n ∷ names) (d ∷ disks) = omega (arith, as_many names disks)
 
--- so only memory may be wanting
+-- the names fit a shelf, so only memory may be wanting
 pub images_fit : (words names : List (List ℕ)) (disks : List DiskState) (fault : AddFault) → names ≡ image_names words → IsNotShelved fault (idle_drawers names disks) → fault ≡ NoMemory
 images_fit words names disks Full is h =
     let few : length names ≤ 16 = subst (λ (n : List (List ℕ)). length n ≤ 16) (sym is) (few_images words).1 in

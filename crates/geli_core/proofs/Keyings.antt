@@ -21,7 +21,7 @@ among_removed (d ∷ ds) (suc place) drawer (suc n, is) =
     let behind = among_removed ds place drawer (n, is) in
     (suc behind.0, behind.1)
 
--- what holds of each drawer, where one changed of which it holds then
+-- what holds of each drawer, if one changed and it holds of that one then
 pub put_back : (P : DrawerState → Type 0) (drawers : List DrawerState) (place n : ℕ) (before after drawer : DrawerState) → ((d : DrawerState) → IsAmong drawers d → P d) → P after → slice_get drawers place ≡ Some before
     → slice_get (set drawers place after) n ≡ Some drawer → (place ≡ n) ⊎ (place ≡ n → ⊥) → P drawer
 put_back P drawers place n before after drawer all one found there (inl here) =
@@ -52,6 +52,6 @@ reading_keeps (Ok None) line old answer new h all = all_stay old new h.1 all
 reading_keeps (Ok (Some command)) line old None new h all = absurd h
 reading_keeps (Ok (Some command)) line old (Some said) new h all = turn_keeps line command old said new h all
 
--- what is attached after a line has a keying that a provider may have, where that was so before
+-- what is attached after a line has a keying that a provider may have, if that was so before
 pub line_keeps : (sep : Sep) (line : List ℕ) (old : World) (answer : Option Answer) (new : World) → ServesLine sep line old answer new → HoldKeyings old.drawers → HoldKeyings new.drawers
 line_keeps sep line old answer new h all = reading_keeps (line_reading sep line) line old answer new h all

@@ -20,13 +20,13 @@ use Rattle.geli_core.specs.declared.serving.LineEnd.{LineEnd}
 
 -- ---- want of memory
 
--- a line that names a drawer lacks memory only where its verb may
+-- a line that names a drawer lacks memory only if its verb may
 lacks_at : (line : List ℕ) (command : Command) (old new : World) (place : Option ℕ) → MatchOption place (refusals.NoMemory ≡ refusals.UnknownProvider) (CausedAt line command refusals.NoMemory old new)
     → IsTrue (may_lack_memory command)
 lacks_at line command old new None h = absurd (let none : ⊥ = cc h in none)
 lacks_at line command old new (Some place) h = h.cause
 
--- `list` alone names none
+-- only `list` names no drawer
 unnamed_lacks : (command : Command) → provider_of command ≡ None → IsTrue (may_lack_memory command)
 unnamed_lacks commands.List is = refl
 unnamed_lacks command is = absurd (let none : ⊥ = cc is in none)
@@ -38,7 +38,7 @@ lacks_by line command old new (Some prov) is h = lacks_at line command old new (
 lacks : (line : List ℕ) (command : Command) (old new : World) → Caused line command refusals.NoMemory old new → IsTrue (may_lack_memory command)
 lacks line command old new h = lacks_by line command old new (provider_of command) refl h
 
--- ---- an answer
+-- ---- a reply
 
 caused_of : (line : List ℕ) (command : Command) (old : World) (answer : Answer) (new : World) → Turn line command old answer new → IfRefused answer (λ refusal. Caused line command refusal old new)
 caused_of line command old (answers.Refused refusal) new h = refusal_caused line command old refusal new h
@@ -78,7 +78,7 @@ reading_laws (Ok (Some command)) line old (Some answer) new h = turn_laws line c
 pub line_laws : (sep : Sep) (line : List ℕ) (old : World) (answer : Option Answer) (new : World) → ServesLine sep line old answer new → LineKeepsLaws (line_reading sep line) line old answer new
 line_laws sep line old answer new h = reading_laws (line_reading sep line) line old answer new h
 
--- a line that was served and printed keeps them
+-- a line that was served and printed keeps the laws
 pub served_lawfully : (sep : Sep) (line : List ℕ) (old : World) (sink : SinkState) (result : Result LineEnd WriteEnd) (new : World) (after : SinkState) → ServesAndPrints sep line old sink result new after
     → ServesLawfully sep line old sink result new after
 served_lawfully sep line old sink result new after h = record { answer = h.answer; serves = h.serves; prints = h.prints; laws = line_laws sep line old h.answer new h.serves }

@@ -1,4 +1,4 @@
--- The lines that are answered that the cabinet or the entropy failed are counted by them.
+-- The lines that are answered with a failure of the cabinet or the entropy are counted by the faults of that.
 use Rattle.std.proofs.Common.{◌≡◌, inl, inr, ℕ, ◌+◌, ◌≤◌, ◌==◌, List, [], ◌∷◌, refl, ap, sym, subst, arith, Bool, true, false, cond, Option, None, Some, Result, Ok, Err, not}
 use Rattle.command_rows.specs.Rows.{Answer, World}
 use Rattle.command_rows.specs.Vocabulary.{CabinetState, Command, EntropyState, Rose, passphrase_limit}
@@ -14,7 +14,7 @@ use Rattle.geli_core.specs.Vocabulary.{Sep, Usage, line_reading}
 pub false_is : {P : Type 0} → false ≡ true → P
 false_is h = absurd (let none : ⊥ = cc h in none)
 
--- ---- what an answer says of the counts
+-- ---- what a reply says of the counts
 
 cabinet_rose : (cabinet : CabinetState) (entropy : EntropyState) (said : Answer) (cabinet' : CabinetState) (entropy' : EntropyState) → CountsAnswer cabinet entropy said cabinet' entropy' → is_cabinet_fault (Some said) ≡ true
     → Rose cabinet.faults cabinet'.faults
@@ -36,7 +36,7 @@ misses_rose cabinet entropy said cabinet' entropy' h is = false_is is
 
 -- ---- one line
 
--- a count didn't fall, and where this is so it rose
+-- a count didn't fall, and it rose if the line is answered with such a failure
 record Rises (is : Bool) (before now : ℕ) : Type 0 where
   later : before ≤ now
   rose : is ≡ true → Rose before now

@@ -139,7 +139,7 @@ unserved a tag d none h = subst (λ (o : Option Request). IsSomeAnd o (IsOf a.ke
 missing : (a : Attachment) (tag : ℕ) (d : DiskState) → AreAllOf a.keying (media a.keying d) a.queue → (HasRequest a tag d → ⊥) → request_with tag a.queue ≡ None
 missing a tag d own not = elim (served a.keying (media a.keying d) tag a.queue own) [ inl none ↦ none | inr there ↦ absurd (not there) ]
 
--- by the first step of the row
+-- the row is refused by its first step
 needs_both : {B : Type 0} (a : Attachment) (tag : ℕ) (Next : Reach → Result B Refusal → Reach → Type 0) (old : Reach) (given : Result (Unit {0}) Refusal) (middle : Reach) (answer : Result B Refusal) (new : Reach)
     → ((start : Reach) → Next start answer new → answer ≡ Err (refusals.NoRequest tag) → request_with tag a.queue ≡ None) → AreAllOf a.keying (media a.keying old.disk) a.queue → NeedsRequest a tag old given middle → GoesOn (λ done. Next) given middle answer new
     → (answer ≡ Err (refusals.NoRequest tag) → request_with tag a.queue ≡ None) × (request_with tag a.queue ≡ None → answer ≡ Err (refusals.NoRequest tag))
@@ -148,7 +148,7 @@ needs_both a tag Next old (Err (refusals.NoRequest named)) middle answer new ref
     (λ said. missing a tag old.disk own needs.1, λ none. h.0 ∙ ap (λ (n : ℕ). Err (refusals.NoRequest n)) needs.0)
 needs_both a tag Next old (Err refusal) middle answer new refuses own needs h = absurd needs
 
--- a step or a reap of a request isn't refused so where there is one
+-- a step or a reap of a request isn't refused with `NoRequest` if there is such a request
 refuses_step : (a : Attachment) (tag : ℕ) (queue : List Request) (d new : DiskState) (answer : Result ℕ Refusal) (left : Result ℕ StepFault) → answer ≡ or_refusal (step_refusal tag) left → StepAnswers tag a.queue queue d new left → answer ≡ Err (refusals.NoRequest tag)
     → request_with tag a.queue ≡ None
 refuses_step a tag queue d new answer (Ok left) is h said = absurd (let both = sym is ∙ said in let differ : ⊥ = cc both in differ)
@@ -163,7 +163,7 @@ refuses_reap a tag queue before after answer (Err reap.NoRequest) is h said = h.
 refuses_reap a tag queue before after answer (Err (reap.NotDone left)) is h said = absurd (let both = sym is ∙ said in let differ : ⊥ = cc both in differ)
 refuses_reap a tag queue before after answer (Err (reap.Integrity offset)) is h said = absurd (let both = sym is ∙ said in let differ : ⊥ = cc both in differ)
 
--- by what is answered
+-- what the reply says of a refusal
 left_refused : (answer : Result ℕ Refusal) (refusal : Refusal) → answers.Refused refusal ≡ left_or answer → answer ≡ Err refusal
 left_refused (Ok left) refusal h = absurd (let differ : ⊥ = cc h in differ)
 left_refused (Err r) refusal h = (let same : refusal ≡ r = cc h in ap (λ (x : Refusal). Err x) (sym same))
@@ -180,7 +180,7 @@ through_gate line command a old said new Claim passes is row h =
     by_gate line command old said new Claim row
     (λ refusal refused said_so. absurd (let here : refused_by (needs command) (IsAttached a) ≡ Some refusal = subst (λ (x : Holding). refused_by (needs command) x ≡ Some refusal) is refused in let differ : ⊥ = cc (passes, here) in differ)) h
 
--- the two ways
+-- if a reply says `NoRequest`, no request has the tag, and the other way round
 abbrev Both : Answer → ℕ → Attachment → Type 0
 Both said tag a = (said ≡ answers.Refused (refusals.NoRequest tag) → request_with tag a.queue ≡ None) × (request_with tag a.queue ≡ None → said ≡ answers.Refused (refusals.NoRequest tag))
 

@@ -21,7 +21,7 @@ prepend_known-nothing (Some bytes) = refl
 pub piece_more : (bytes piece : List ℕ) (n : ℕ) → n < length piece → bytes ++ take (n + 1) piece ≡ (bytes ++ take n piece) ++ get_or piece n 0 ∷ []
 piece_more bytes piece n small = ap (λ (l : List ℕ). bytes ++ l) (take_more piece n 0 small) ∙ sym (append_assoc bytes (take n piece) (get_or piece n 0 ∷ []))
 
--- it stopped at a byte of a piece
+-- the run stopped at a byte of a piece
 pub stops_at : (bytes piece : List ℕ) (n : ℕ) (old new : SiteState) (stop : Stop) → length piece ≤ most_taken → n < length piece → StopsBy ((bytes ++ take n piece) ++ get_or piece n 0 ∷ []) old stop new
     → StopsWithin (bytes ++ piece) old stop new
 stops_at bytes piece n old new stop few small stops = record {

@@ -25,7 +25,7 @@ use Rattle.geli_core.proofs.Queues.{within_none}
 
 -- ---- a drawer and one line
 
--- the line names it, and it goes through the row
+-- the line names the drawer, and the command goes through its row
 pub record Served (sep : Sep) (line : List ℕ) (answer : Option Answer) (old new : DrawerState) : Type 0 where
   pub events : List Event
   pub serves : ServesDrawer sep line answer old events new
@@ -45,7 +45,7 @@ record CameBy (sep : Sep) (line : List ℕ) (answer : Option Answer) (olds : Lis
 stayed : (sep : Sep) (line : List ℕ) (answer : Option Answer) (olds : List DrawerState) (drawer : DrawerState) → IsAmong olds drawer → CameBy sep line answer olds drawer
 stayed sep line answer olds drawer was = record { before = drawer; was = was; did = inl refl }
 
--- the line names it
+-- the line names the drawer
 served : (sep : Sep) (line : List ℕ) (command : Command) (said : Answer) (old new : World) (place : ℕ) → line_reading sep line ≡ Ok (Some command) → place_named line command old.drawers ≡ Some place
     → (h : ChangesAt (Serves line command) old said new place) → Served sep line (Some said) h.before h.after
 served sep line command said old new place asked at h =
@@ -67,7 +67,7 @@ served sep line command said old new place asked at h =
       row = h.step;
     }
 
--- at the place that the line names, or at another
+-- the drawer stands at the place that the line names, or at another
 served_at : (sep : Sep) (line : List ℕ) (command : Command) (said : Answer) (old new : World) (drawer : DrawerState) (n place : ℕ) → line_reading sep line ≡ Ok (Some command) → place_named line command old.drawers ≡ Some place
     → slice_get new.drawers n ≡ Some drawer → ChangesAt (Serves line command) old said new place → (place ≡ n) ⊎ (place ≡ n → ⊥) → CameBy sep line (Some said) old.drawers drawer
 served_at sep line command said old new drawer n place asked at there h (inl here) =
@@ -77,7 +77,7 @@ served_at sep line command said old new drawer n place asked at there h (inl her
 served_at sep line command said old new drawer n place asked at there h (inr other) =
     stayed sep line (Some said) old.drawers drawer (n, sym (ap (λ (l : List DrawerState). slice_get l n) h.others ∙ get-set_other old.drawers place n h.after other) ∙ there)
 
--- by the place of the drawer that it names, if it names one
+-- what a line changes, by the place of the drawer that it names, if it names one
 abbrev ChangedBy : List ℕ → Command → World → Answer → World → Option ℕ → Type 0
 ChangedBy line command old said new None = new.drawers ≡ old.drawers
 ChangedBy line command old said new (Some place) = TakesOutDrawer old said new place ⊎ ChangesAt (Serves line command) old said new place
@@ -130,9 +130,9 @@ came sep (l ∷ lines) start end drawer run there =
     let by = came_by sep l.line l.answer start l.next behind.before run.0.0 behind.was in
     record { before = by.before; was = by.was; way = (behind.before, run.0.0, by.was, behind.was, by.did, behind.way) }
 
--- ---- its play
+-- ---- the play of a drawer
 
--- what its disk tells, as the play says
+-- what the drawer's disk reports, as the play says
 pub Tells : Type 0 → Option Content → Play → DrawerState → Type 0
 Tells Fresh told m drawer = MatchOption told (drawer.disk.content ≡ None) (λ c. Follows Fresh c m drawer.holding drawer.disk)
 
@@ -177,7 +177,7 @@ line_goes Fresh told sep line answer old m new (inr s) had keyed t = record {
   name = s.serves.name;
 }
 
--- and after lines
+-- the play after lines
 pub record GoesFar (Fresh : Type 0) (told : Option Content) (sep : Sep) (lines : List ServedLine) (old : DrawerState) (m : Play) (new : DrawerState) : Type 0 where
   pub last : Play
   pub places : DrawerPlaces told sep lines old m last new
@@ -246,7 +246,7 @@ unfolding Tells
 tells_tasks Fresh None m drawer t fresh = tt
 tells_tasks Fresh (Some c) m drawer t fresh = follows_tasks Fresh c m (attachment_in drawer.holding) drawer.disk t fresh
 
--- what holds by the play holds where the disk tells its content
+-- what holds by the play holds if the disk reports its content
 pub told_holds : (Fresh : Type 0) (told : Option Content) (m : Play) (drawer : DrawerState) (Holds : Content → Type 0) → Tells Fresh told m drawer → ((c : Content) → Follows Fresh c m drawer.holding drawer.disk → Holds c) → IfSome told Holds
 unfolding Tells
 told_holds Fresh None m drawer Holds t holds = tt
@@ -265,7 +265,7 @@ survives_by Plays olds before m new was name plays t = record {
   requests = λ fresh. tells_tasks (HasNoRequests before.holding) before.disk.content m new t fresh;
 }
 
--- a drawer that is there after lines, as which it was there before, and what its disk tells
+-- a drawer that is there after lines, as which it was there before, and what its disk reports
 pub record Survived (sep : Sep) (entry : World) (lines : List ServedLine) (drawer : DrawerState) : Type 0 where
   pub before : DrawerState
   pub was : IsAmong entry.drawers before

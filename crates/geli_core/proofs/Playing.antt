@@ -46,7 +46,7 @@ rests_raw c m d new events r logs = record {
   none = refl;
 }
 
--- what was attached isn't any more
+-- what was attached isn't attached any more
 tracks_rest : (Fresh : Type 0) (c : Content) (m : Play) (k : Keying) (queue : List Request) (d new : DiskState) (events : List Event) → Tracks Fresh c m k queue d → Logs events d new → Rests c (goes_on (raw_steps events) [] m) new
 tracks_rest Fresh c m k queue d new events t logs =
     let on = tracks_raw Fresh c m k queue d new events t logs in
@@ -58,7 +58,7 @@ tracks_rest Fresh c m k queue d new events t logs =
       none = refl;
     }
 
--- it is attached anew
+-- a provider is attached anew
 rests_anew : (Fresh : Type 0) (c : Content) (m : Play) (k : Keying) (queue : List Request) (d new : DiskState) (events : List Event) → Rests c m d → Logs events d new → IsKeying k → queue ≡ [] → Tracks Fresh c (goes_on (raw_steps events) m.tasks m) k queue new
 rests_anew Fresh c m k queue d new events r logs keyed none =
     let on = rests_raw c m d new events r logs in
@@ -81,7 +81,7 @@ rests_anew Fresh c m k queue d new events r logs keyed none =
 
 -- ---- a drawer
 
--- its play, by what it does with its disk
+-- the play of a drawer, by what the drawer does with its disk
 abbrev pub FollowsBy : Type 0 → Content → Play → Option Attachment → DiskState → Type 0
 FollowsBy Fresh c m found d = MatchOption found (Rests c m d) (λ a. Tracks Fresh c m a.keying a.queue d)
 
@@ -142,7 +142,7 @@ fill_kept Fresh c m (Some a) d new line prov seed start count told said events l
 
 -- ---- `submit`, `step` and `reap`
 
--- where nothing is attached they are refused
+-- if nothing is attached, requests are refused
 unattached : (holding : Holding) (refusal : Refusal) → refused_by AnAttached holding ≡ Some refusal → attachment_in holding ≡ None
 unattached Idle refusal h = refl
 unattached (IsAttached a) refusal h = absurd (let none : ⊥ = cc h in none)
@@ -155,7 +155,7 @@ refused_follows Fresh c m line command said old new events none same logs f =
     let rest : Rests c m old.disk = subst (λ (o : Option Attachment). FollowsBy Fresh c m o old.disk) none f in
     subst (λ (o : Option Attachment). FollowsBy Fresh c (played_by o line command (Some c) said events m) o new.disk) (sym gone) (rests_raw c m old.disk new.disk events rest logs)
 
--- a row after which this is attached, by its answer
+-- a row after which this is attached, by its result
 row_follows : (Fresh : Type 0) (c : Content) (m : Play) (line : List ℕ) (command : Command) (said is : Answer) (b : Attachment) (new : Reach) (events : List Event) → said ≡ is → new.holding ≡ IsAttached b
     → Tracks Fresh c (command_played line command b.keying (Some c) is events m) b.keying b.queue new.disk → Follows Fresh c (played_by (attachment_in new.holding) line command (Some c) said events m) new.holding new.disk
 row_follows Fresh c m line command said is b new events replied holds t =

@@ -16,7 +16,7 @@ apart_from a b c unlike is = ne_eqb b c (λ same. eqb-false a b unlike (eqb-true
 
 -- ---- the request with a tag
 
--- is that of the task
+-- the request with a tag is that of the task
 map_step : (k : Keying) (tag : ℕ) (t : Task) (tasks : List Task) (b : Bool) → request_with tag (map (request_of k) tasks) ≡ option_map (request_of k) (task_with tag tasks)
     → cond b (Some (request_of k t)) (request_with tag (map (request_of k) tasks)) ≡ option_map (request_of k) (cond b (Some t) (task_with tag tasks))
 map_step k tag t tasks true more = refl
@@ -35,7 +35,7 @@ pub tag_of_request : (tag : ℕ) (queue : List Request) (r : Request) → reques
 tag_of_request tag [] r h = absurd (let none : ⊥ = cc h in none)
 tag_of_request tag (x ∷ queue) r h = tag_step tag x queue r (x.tag == tag) refl (tag_of_request tag queue r) h
 
--- in a queue with one request more, under a tag that was free
+-- the request with a tag in a queue with one request more, under a tag that was free
 put_swap : (new r : Request) (there : Option Request) (here mine : Bool) → (here ≡ true → mine ≡ true → ⊥) → cond here (Some r) (cond mine (Some new) there) ≡ cond mine (Some new) (cond here (Some r) there)
 put_swap new r there true true unlike = absurd (unlike refl refl)
 put_swap new r there true false unlike = refl
@@ -54,7 +54,7 @@ request_with-put_in : (new : Request) (queue : List Request) (tag : ℕ) → req
 request_with-put_in new [] tag free = refl
 request_with-put_in new (r ∷ queue) tag free = put_step new r queue tag (nat_lt new.tag r.tag) (r.tag == new.tag) refl (request_with-put_in new queue tag) free
 
--- with one in place of the one that has its tag
+-- the request with a tag in a queue where one request takes the place of the one that has its tag
 exchange_here : (new r : Request) (there : Option Request) (b : Bool) → cond b (Some new) there ≡ cond b (option_map (λ (x : Request). new) (cond b (Some r) there)) (cond b (Some r) there)
 exchange_here new r there true = refl
 exchange_here new r there false = refl
@@ -76,7 +76,7 @@ request_with-exchanged : (new : Request) (queue : List Request) (tag : ℕ) → 
 request_with-exchanged new [] tag = elim (new.tag == tag) as (λ b. None ≡ cond b (option_map (λ (x : Request). new) None) None) [ true ↦ refl | false ↦ refl ]
 request_with-exchanged new (r ∷ queue) tag = exchange_step new r queue tag (r.tag == new.tag) refl (request_with-exchanged new queue tag)
 
--- without one that has another tag
+-- the request with a tag in a queue without one that has another tag
 without_step : (named : ℕ) (r : Request) (queue : List Request) (tag : ℕ) (same : Bool) → (r.tag == named) ≡ same → (named == tag) ≡ false → request_with tag (without named queue) ≡ request_with tag queue
     → request_with tag (cond same queue (r ∷ without named queue)) ≡ cond (r.tag == tag) (Some r) (request_with tag queue)
 without_step named r queue tag true is unlike more = ap (λ (b : Bool). cond b (Some r) (request_with tag queue)) (sym (same_as r.tag named tag is ∙ unlike))
@@ -86,7 +86,7 @@ request_with-without : (named : ℕ) (queue : List Request) (tag : ℕ) → (nam
 request_with-without named [] tag unlike = refl
 request_with-without named (r ∷ queue) tag unlike = without_step named r queue tag (r.tag == named) refl unlike (request_with-without named queue tag unlike)
 
--- without any, where there was none
+-- the request with a tag in a queue without any that has it, if there was none
 none_step : (named : ℕ) (r : Request) (queue : List Request) (tag : ℕ) (same here : Bool) → (r.tag == tag) ≡ here → (request_with tag queue ≡ None → request_with tag (without named queue) ≡ None) → cond here (Some r) (request_with tag queue) ≡ None
     → request_with tag (cond same queue (r ∷ without named queue)) ≡ None
 none_step named r queue tag same true is more h = absurd (let none : ⊥ = cc h in none)
@@ -136,7 +136,7 @@ pub apart_without : (named : ℕ) (queue : List Request) → AreApart queue → 
 apart_without named [] apart = tt
 apart_without named (r ∷ queue) apart = apart_without_step named r queue (r.tag == named) apart (apart_without named queue apart.1)
 
--- so that none has the tag of one that was taken out
+-- no request has the tag of one that was taken out
 gone_step : (named : ℕ) (r : Request) (queue : List Request) (same : Bool) → (r.tag == named) ≡ same → AreApart (r ∷ queue) → request_with named (without named queue) ≡ None → request_with named (cond same queue (r ∷ without named queue)) ≡ None
 gone_step named r queue true is apart more = subst (λ (n : ℕ). request_with n queue ≡ None) (eqb-true r.tag named is) apart.0
 gone_step named r queue false is apart more = ap (λ (b : Bool). cond b (Some r) (request_with named (without named queue))) is ∙ more
@@ -187,7 +187,7 @@ within_exchanged new few queue within tag r h =
     request_with-exchanged new queue tag
     ∙ exchange_both new (request_with tag few) (request_with tag queue) (new.tag == tag) r (within tag) (sym (request_with-exchanged new few tag) ∙ h)
 
--- where none of the few has the tag, they stay as they are
+-- if none of the few has the tag, they stay as they are
 other_tag : (named tag : ℕ) (few : List Request) (r : Request) → request_with named few ≡ None → request_with tag few ≡ Some r → (named == tag) ≡ false
 other_tag named tag few r none h = ne_eqb named tag (λ same. (let is = subst (λ (n : ℕ). request_with n few ≡ None) same none in let none : ⊥ = cc (is, h) in none))
 

@@ -25,7 +25,7 @@ use Rattle.geli_core.proofs.Reaping.{reaped_bytes, reaped_done, reaped_fault}
 
 -- ---- the steps of a row that decide
 
--- what tells of data: an Ok, and a fault at an offset
+-- a result that says something of data: Ok, or a fault at an offset
 abbrev TellsData : {A : Type 0} → Result A Refusal → Type 0
 TellsData (Ok value) = Unit {0}
 TellsData (Err (refusals.Integrity offset)) = Unit {0}
@@ -86,7 +86,7 @@ by_writings k sector count before disk (Some c) steps answer was is e keyed fits
     let there : sector + count ≤ survivors.content_media k c = subst (λ (n : ℕ). sector + count ≤ media_sectors k.auth k.sectorsize (512 * n)) size fits in
     sym (data-read c steps k sector count content e.fit keyed there) ∙ subst (λ (o : Option Content). ReadsFrom o k sector count answer) is reads
 
--- of the drawer that a line names, by what its play says
+-- what a line finds on the drawer that it names, by what the drawer's play says
 stands_by : (sep : Sep) (entry : World) (served : List ServedLine) (start : World) (line : List ℕ) (prov : Span) (Holds : Keying → Content → Play → Type 0) (place : ℕ) (before : DrawerState) (a : Attachment)
     → Run sep entry served start → HoldKeyings entry.drawers → place_of (bytes_at line prov) start.drawers ≡ Some place → slice_get start.drawers place ≡ Some before → before.holding ≡ IsAttached a
     → ((s : Survived sep entry served before) → IfSome s.before.disk.content (λ c. Holds a.keying c s.play)) → StandsSo sep entry served start line prov Holds
@@ -171,7 +171,7 @@ pub turned : (line : List ℕ) (command : Command) (name : List ℕ) (old : Worl
 turned line command name old said new None is h never = absurd (never h)
 turned line command name old said new (Some place) is h never = (place, is, h)
 
--- an answer that tells of data
+-- a reply that says something of data
 abbrev pub TellsReply : Answer → Type 0
 TellsReply (answers.Payload bytes) = Unit {0}
 TellsReply (answers.Digest digest) = Unit {0}
@@ -182,7 +182,7 @@ TellsReply reply = ⊥
 no_gate : (wanted : Needs) (holding : Holding) (refusal : Refusal) → refused_by wanted holding ≡ Some refusal → TellsReply (answers.Refused refusal) → ⊥
 no_gate wanted holding refusal is told = by_gate_refusal wanted holding refusal (λ r. TellsReply (answers.Refused r) → ⊥) is (λ h none. none) (λ h none. none) (λ h none. none) (λ h none. none) told
 
--- it comes from the row, of an attached drawer
+-- the reply comes from the row, of an attached drawer
 pub from_row : (line : List ℕ) (command : Command) (old : Reach) (reply : Answer) (new : Reach) (Row : Attachment → Type 0) (Claim : Type 0) → TellsReply reply → (GoesThrough line command old reply new → AttachedWith old.holding Row)
     → ((a : Attachment) → old.holding ≡ IsAttached a → Row a → Claim) → Serves line command old reply new → Claim
 from_row line command old reply new Row Claim told row goes h =

@@ -1,4 +1,4 @@
--- What a `reap` of a read answers, by the writings of its task.
+-- What a `reap` of a read returns, by the writings of its task.
 use Rattle.std.proofs.Common.{◌≡◌, ◌∙◌, inl, inr, ap, refl, subst, sym, ℕ, List, length, take, drop, Option, None, Some, Result, Ok, Err, IfSome}
 use Rattle.std.proofs.Math.Seq.{take-append_seam}
 use Rattle.bio_queue.specs.declared.faults.ReapFault.TheVariants as reap
@@ -33,7 +33,7 @@ faulty_read k (Reads sector many ws) offset h = h
 faulty_read k (Writes number sector many plain) offset h = h
 faulty_read k Flushes offset h = h
 
--- of the request with a tag, if it was submitted in the run
+-- this holds of the request with a tag, if it was submitted in the run
 if_task : (found : Option Task) (P : Task → Type 0) → ((task : Task) → found ≡ Some task → P task) → IfSome found P
 if_task None P holds = tt
 if_task (Some task) P holds = holds task refl

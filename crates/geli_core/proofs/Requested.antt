@@ -108,11 +108,11 @@ submit_asks line (words.Write sector hex) a old answer new keyed h =
     h.next
 submit_asks line words.Flush a old answer new keyed h = inr (record { job = jobs.Flush; from = []; small = no_bytes; is_asked = tt; work = λ number. refl; submits = h })
 
--- with a queue that is the same
+-- with another queue that is equal
 with_other : (Fresh : Type 0) (c : Content) (m : Play) (k : Keying) (queue more : List Request) (d : DiskState) → more ≡ queue → Tracks Fresh c m k queue d → Tracks Fresh c m k more d
 with_other Fresh c m k queue more d is t = subst (λ (q : List Request). Tracks Fresh c m k q d) (sym is) t
 
--- nothing was done
+-- nothing was done, and the play stays
 still : (Fresh : Type 0) (c : Content) (m : Play) (k : Keying) (queue more : List Request) (d new : DiskState) (events : List Event) → Tracks Fresh c m k queue d → more ≡ queue → new ≡ d → events ≡ [] → Tracks Fresh c (goes_on (raw_steps events) m.tasks m) k more new
 still Fresh c m k queue more d new events t is same none =
     with_other Fresh c (goes_on (raw_steps events) m.tasks m) k queue more new is (tracks_raw Fresh c m k queue d new events t (subst (λ (e : List Event). Logs e d new) (sym none) (rw same (Logs-nothing d))))
@@ -128,7 +128,7 @@ submitted_as Fresh c m line asked a job from queue (Err fault) d new events t sm
 
 -- ---- a step
 
--- what is asked for is there, or nothing changes
+-- the request that is asked for is there, or nothing changes
 pub record IsNoRequest {A : Type 0} (tag : ℕ) (old : Reach) (answer : Result A Refusal) (new : Reach) : Type 0 where
   pub is : answer ≡ Err (refusals.NoRequest tag)
   pub unchanged : new ≡ old
@@ -184,7 +184,7 @@ unit_broken Fresh c m k queue more d new tag events (Some task) t is h logs firs
     let part : events ≡ take (length events) (step_events (request_of k task)) = first ∙ ap (take (length events)) (next_is tag queue h.request h.found ∙ ap step_events (sym same)) in
     tracks_broken Fresh c m k queue more d new tag task events t is h logs part
 
--- by the answer of the queue
+-- what a step does, by the result of the queue
 pub stepped_as : (Fresh : Type 0) (c : Content) (m : Play) (k : Keying) (queue more : List Request) (d new : DiskState) (tag : ℕ) (events : List Event) (left : Result ℕ StepFault) → Tracks Fresh c m k queue d → StepAnswers tag queue more d new left → Logs events d new
     → EventsBy (λ wanted. wanted ≡ next_events tag queue) false (left_or (or_refusal (step_refusal tag) left)) events
     → let found = task_with tag m.tasks in

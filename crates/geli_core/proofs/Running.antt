@@ -31,7 +31,7 @@ lines_of-more lines l = map-append (λ (x : ServedLine). x.line) lines (l ∷ []
 pub answers_of-more : (lines : List ServedLine) (l : ServedLine) → answers_of (lines ++ l ∷ []) ≡ answers_of lines ++ l.answer ∷ []
 answers_of-more lines l = map-append (λ (x : ServedLine). x.answer) lines (l ∷ [])
 
--- all, and one more
+-- this holds of all items, and of one more
 pub all_more : {X : Type 0} (P : X → Type 0) (xs : List X) (x : X) → AllByRecursion P xs → P x → AllByRecursion P (xs ++ x ∷ [])
 all_more P [] x all one = (one, tt)
 all_more P (y ∷ ys) x all one = (all.0, all_more P ys x all.1 one)
@@ -98,7 +98,7 @@ cut_more bytes lines line cut = record {
 abbrev pub served_line : List ℕ → Option Answer → World → ServedLine
 served_line line answer next = record { line = line; answer = answer; next = next }
 
--- was served
+-- a line that has its newline was served
 ServesLines-line : (bytes : List ℕ) (old middle new : SiteState) (line : List ℕ) (h : ServesLines bytes old line middle) (answer : Option Answer) → length line ≤ line_limit
     → ServesLine Blanks line middle.world answer new.world → ServesLines (bytes ++ newline ∷ []) old [] new
 ServesLines-line bytes old middle new line h answer short serves =
@@ -120,7 +120,7 @@ ends_by : (answer : Option Answer) (end : LineEnd) (old new : SinkState) → Pri
 ends_by None end old new h = (let is : end ≡ Silent = cc (h.0) in is)
 ends_by (Some answer) end old new h = h.0
 
--- a line of which the sink failed to take the answer
+-- a line whose reply the sink failed to take
 pub failed_more : (said : List (Option Answer)) (answer : Option Answer) (failed : WriteEnd) (old middle new : SinkState) → TookAll (answers_text said) old middle → PrintsAnswer answer middle (Err failed) new
     → FailsInLast (said ++ answer ∷ []) old new
 failed_more said None failed old middle new a b = absurd (let no : ⊥ = cc (b.0) in no)

@@ -35,7 +35,7 @@ taken_next state before name items rest disk all some first left is =
     ∙ append_assoc (disks_of before) (state disk ∷ []) (map state rest)
     ∙ ap (λ (l : List DiskState). disks_of before ++ l) (sym (first_disk state items rest disk some first left)) ∙ is
 
--- nor is the one that is refused
+-- the disk that is refused isn't lost either
 pub refused_next : {D : Type 0} (state : D → DiskState) (before : List DrawerState) (items rest : List D) (disk : D) (all : List DiskState) → 0 < length items → disk ≡ slice_index_or items 0 disk → rest ≡ remove items 0
     → disks_of before ++ map state items ≡ all → disks_of before ++ state disk ∷ map state rest ≡ all
 refused_next state before items rest disk all some first left is = ap (λ (l : List DiskState). disks_of before ++ l) (sym (first_disk state items rest disk some first left)) ∙ is
@@ -66,7 +66,7 @@ none_more name (d ∷ ds) drawer h other =
     let behind : place_of name (ds ++ drawer ∷ []) ≡ None = none_more name ds drawer p.1 other in
     ap (λ (b : Bool). cond b (Some 0) (option_map (λ (n : ℕ). n + 1) (place_of name (ds ++ drawer ∷ [])))) p.0 ∙ ap (option_map (λ (n : ℕ). n + 1)) behind
 
--- one more whose name none of them has
+-- one drawer more, whose name none of them has
 differ_with : (before : List DrawerState) (drawer : DrawerState) → NamesDiffer before → place_of drawer.name before ≡ None → NamesDiffer (before ++ drawer ∷ [])
 differ_with [] drawer h none = (refl, tt)
 differ_with (d ∷ ds) drawer h none =
@@ -81,7 +81,7 @@ is_none (Some n) h = absurd (let no : ⊥ = cc h in no)
 pub differ_more : (before : List DrawerState) (drawer : DrawerState) → NamesDiffer before → IsNone (place_of drawer.name before) → NamesDiffer (before ++ drawer ∷ [])
 differ_more before drawer h none = differ_with before drawer h (is_none (place_of drawer.name before) none)
 
--- where all differ, none before has the name of the next
+-- if all names differ, none before has the name of the next
 differ_before : (before : List DrawerState) (drawer : DrawerState) (rest : List DrawerState) → NamesDiffer ((before ++ drawer ∷ []) ++ rest) → place_of drawer.name before ≡ None
 differ_before [] drawer rest h = refl
 differ_before (d ∷ ds) drawer rest h =
@@ -103,7 +103,7 @@ not_shelved Taken before drawer rest all is refuses = λ differ.
     some_none (place_of drawer.name before) refuses.1 (differ_before before drawer rest (subst NamesDiffer (sym is) differ))
 not_shelved NoMemory before drawer rest all is refuses = tt
 
--- the run from these drawers on, to those that are left
+-- the run over disks, from the drawers on the shelf to those that are left
 pub runs_over : (words names : List (List ℕ)) (disks : List DiskState) (old : OutsideState) (status : Status) (left : List DrawerState) (new : OutsideState) (before : List DrawerState) → before ≡ idle_drawers names disks
     → NamesDiffer (idle_drawers names disks) → RunsLawfully words (whole_with before old) status (whole_with left new) → RunsOver words names disks old status left new
 runs_over words names disks old status left new before is differ lawful =

@@ -26,14 +26,14 @@ use Rattle.geli_core.proofs.SlotKeys.{tried_opens}
 
 -- ---- a drawer after a line
 
--- the line names it, and what it does with its disk came about so
+-- the line names the drawer, and what the drawer does with its disk came about by it
 record IsNamed (sep : Sep) (line : List ℕ) (start next : World) (before drawer : DrawerState) : Type 0 where
   command : Command
   asked : line_reading sep line ≡ Ok (Some command)
   said : Answer
   becomes : Becomes line command (reach before start) said (reach drawer next)
 
--- it was as it is, or the line names it
+-- the drawer was as it is, or the line names it
 record Behind (sep : Sep) (line : List ℕ) (start next : World) (drawer : DrawerState) : Type 0 where
   before : DrawerState
   was : IsAmong start.drawers before
@@ -86,7 +86,7 @@ read_behind sep line (Ok (Some command)) start (Some said) next drawer asked h t
 behind : (sep : Sep) (line : List ℕ) (start : World) (answer : Option Answer) (next : World) (drawer : DrawerState) → ServesLine sep line start answer next → IsAmong next.drawers drawer → Behind sep line start next drawer
 behind sep line start answer next drawer h there = read_behind sep line (line_reading sep line) start answer next drawer refl h there
 
--- ---- it stays suspended, one line more
+-- ---- the drawer stays suspended, one line more
 
 stays_more : (kept : Kept) (lines : List ServedLine) (l : ServedLine) (old before drawer : DrawerState) → StaysSuspendedThrough kept lines old before → IsAmong l.next.drawers drawer → drawer.name ≡ before.name → Logs [] before.disk drawer.disk
     → drawer.holding ≡ IsSuspended kept → StaysSuspendedThrough kept (lines ++ l ∷ []) old drawer
@@ -94,7 +94,7 @@ stays_more kept [] l old before drawer h there name logs is =
     (drawer, there, name ∙ ap (λ (d : DrawerState). d.name) h.0, h.1, subst (λ (d : DrawerState). Logs [] d.disk drawer.disk) h.0 logs, (refl, is))
 stays_more kept (first ∷ lines) l old before drawer h there name logs is = (h.0, h.1, h.2, h.3, h.4, stays_more kept lines l h.0 before drawer h.5 there name logs is)
 
--- since entry, or since a line
+-- the drawer is suspended since entry, or since a line
 abbrev Came : Sep → World → List ServedLine → DrawerState → Kept → Type 0
 Came sep entry served drawer kept = SuspendedBefore entry served drawer kept ⊎ ((a : Attachment) × SuspendedSince sep entry served drawer kept a)
 

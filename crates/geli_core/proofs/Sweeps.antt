@@ -110,7 +110,7 @@ sectors_small course old d =
 record StandsAt (course : Course) (counts : List ℕ) (world : World) : Type 0 where
   holds : place_file course world ≡ Some (Some (le64 (end_of course counts)))
 
--- a part was swept from there, and the file says where it ended
+-- a part was swept from where the file says, and the file says where it ended
 record Advances (course : Course) (counts : List ℕ) (asked : Option AskedSweep) (old : World) (answer : Option Answer) (new : World) : Type 0 where
   part : SweepsPart course counts asked old answer new
   stands : StandsAt course (counts_with counts asked answer) new

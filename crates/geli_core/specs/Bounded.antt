@@ -1,4 +1,4 @@
--- What a run answers of failures, by the counts of what failed.
+-- What a run prints about failures, by the counts of what failed.
 use Rattle.std.specs.Prelude.{◌≡◌, ◌⊎◌, ℕ, ◌+◌, Bool, false, List, Option, None, Some, slice_get}
 use Rattle.command_rows.specs.Rows.{DrawerState, World, place_of}
 use Rattle.geli_core.specs.Bounds.{ClosesWithFailures, CountsOutside, RisesBy, RisesUntilOut, device_faults}
@@ -10,7 +10,7 @@ abbrev pub ClosesDrawer : Option ℕ → DrawerState → Bool → DrawerState �
 ClosesDrawer None last failed new = (failed ≡ false) × (new ≡ last)
 ClosesDrawer (Some many) last failed new = Closes last failed new
 
--- the drawer has its name still at exit, and its disk's count of faults rose by one more where its closing failed
+-- the drawer still has its name at exit, and its disk's count of faults rose by one more if its closing failed
 pub record RisesToExit (closing : Option ℕ) (many : ℕ) (before : DrawerState) (name : List ℕ) (behind exit : World) : Type 0 where
   pub place : ℕ
   pub named : place_of name exit.drawers ≡ Some place
@@ -20,9 +20,9 @@ pub record RisesToExit (closing : Option ℕ) (many : ℕ) (before : DrawerState
   pub rises : RisesBy (many + failures failed) before place exit
   pub closes : ClosesDrawer closing last failed rises.after
 
--- the answers to the lines that the cabinet or the entropy failed, or a file was absent, are counted; each refusal of
--- the closing has its drawer; and the answers to the lines that name a drawer that its disk failed are counted by that
--- disk, and so is the failure of its closing
+-- the replies that say that the cabinet or the entropy failed, or that a file was absent, are counted; each refusal of
+-- the closing has its drawer; and the replies to the lines that name a drawer and say that its disk failed are counted
+-- by that disk, and so is the failure of its closing
 pub record CountsAll (entry : World) (trace : Trace) (exit : World) : Type 0 where
   pub outside : CountsOutside (answers_of trace.lines) entry exit
   pub closing : ClosesWithFailures entry trace exit

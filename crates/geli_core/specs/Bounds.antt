@@ -13,14 +13,14 @@ pub record FailedHeld (old new : DrawerState) : Type 0 where
   pub held : is_idle old.holding ≡ false
   pub rose : Rose old.disk.faults new.disk.faults
 
--- one more than those after it, where this drawer failed
+-- one drawer more failed than among those after it, since this one failed
 pub record FailedToo (Behind : ℕ → Type 0) (many : ℕ) (old new : DrawerState) : Type 0 where
   pub behind : ℕ
   pub one_more : many ≡ 1 + behind
   pub failed : FailedHeld old new
   pub others : Behind behind
 
--- of these drawers, before and after, so many failed, each counted once
+-- so many of these drawers, before and after, failed, each counted once
 abbrev pub ManyFailed : ℕ → List DrawerState → List DrawerState → Type 0
 ManyFailed many [] [] = many ≡ 0
 ManyFailed many (old ∷ olds) (new ∷ news) = ManyFailed many olds news ⊎ FailedToo (λ behind. ManyFailed behind olds news) many old new
@@ -38,7 +38,7 @@ abbrev pub is_device_fault : Option Answer → Bool
 is_device_fault (Some (answers.Refused refusals.DeviceFault)) = true
 is_device_fault answer = false
 
--- so many lines that name a drawer were answered so
+-- how many lines that name a drawer are answered with a failure of a disk
 abbrev pub device_faults : Sep → List ℕ → List ServedLine → ℕ
 device_faults sep name [] = 0
 device_faults sep name (l ∷ lines) = (if names sep l.line name && is_device_fault l.answer then 1 else 0) + device_faults sep name lines
@@ -48,7 +48,7 @@ abbrev pub KeepsAll : Result (Option Command) Usage → Type 0
 KeepsAll (Ok (Some command)) = takes_out command ≡ false
 KeepsAll read = Unit {0}
 
--- the drawer stands where it stood, and its disk's count of faults rose at least by as many, unless it stands at its
+-- the drawer stands where it stood, and its disk's count of faults rose by at least so many, unless it stands at its
 -- last value
 pub record RisesBy (many : ℕ) (before : DrawerState) (place : ℕ) (new : World) : Type 0 where
   pub after : DrawerState
@@ -58,13 +58,13 @@ pub record RisesBy (many : ℕ) (before : DrawerState) (place : ℕ) (new : Worl
 
 -- ---- drawers that lines may take out
 
--- the drawer has its name still, wherever it stands, and its disk's count of faults rose so
+-- the drawer still has its name, wherever it stands, and its disk's count of faults rose by at least so many
 pub record RisesNamed (many : ℕ) (before : DrawerState) (name : List ℕ) (new : World) : Type 0 where
   pub place : ℕ
   pub named : place_of name new.drawers ≡ Some place
   pub rises : RisesBy many before place new
 
--- one of the lines took the drawer out, and it rose so before that line
+-- one of the lines took the drawer out, and before that line its disk's count of faults rose by at least so many
 pub record RisesUntilOut (sep : Sep) (entry : World) (lines : List ServedLine) (many : ℕ) (before : DrawerState) (name : List ℕ) : Type 0 where
   pub served : List ServedLine
   pub out : ServedLine
@@ -80,28 +80,29 @@ abbrev pub is_cabinet_fault : Option Answer → Bool
 is_cabinet_fault (Some (answers.Refused (refusals.CabinetFault word))) = true
 is_cabinet_fault answer = false
 
--- that the entropy failed
+-- whether a line is answered that the entropy failed
 abbrev pub is_entropy_fault : Option Answer → Bool
 is_entropy_fault (Some (answers.Refused refusals.EntropyFault)) = true
 is_entropy_fault answer = false
 
--- that a file was absent, or longer than a file may be; passphrases have a limit of their own
+-- whether a line is answered that a file was absent, or longer than a file may be; passphrases have a limit of their
+-- own
 abbrev pub is_miss : Option Answer → Bool
 is_miss (Some (answers.Refused (refusals.FileAbsent word))) = true
 is_miss (Some (answers.Refused (refusals.FileTooLong word limit))) = not (limit == passphrase_limit)
 is_miss answer = false
 
--- how many answers are such
+-- how many replies are of this kind
 abbrev pub how_many : (Option Answer → Bool) → List (Option Answer) → ℕ
 how_many is [] = 0
 how_many is (answer ∷ answers) = (if is answer then 1 else 0) + how_many is answers
 
--- a count didn't fall, and rose at least by so many, unless it stands at its last value
+-- a count didn't fall, and rose by at least so many, unless it stands at its last value
 pub record RoseBy (many before now : ℕ) : Type 0 where
   pub later : before ≤ now
   pub bound : now < 2 ^ 64 - 1 → before + many ≤ now
 
--- so it is with the counts of the cabinet and the entropy, and the answers for their failures
+-- the counts of the cabinet and the entropy each rose by at least as many as there are replies for their failures
 pub record CountsOutside (answers : List (Option Answer)) (old new : World) : Type 0 where
   pub cabinet : RoseBy (how_many is_cabinet_fault answers) old.cabinet.faults new.cabinet.faults
   pub misses : RoseBy (how_many is_miss answers) old.cabinet.misses new.cabinet.misses

@@ -1,4 +1,4 @@
--- Which runs go to their end: where nothing failed and the input is within its limits, all is served and printed.
+-- Which runs go to their end: if nothing failed and the input is within its limits, all is served and printed.
 use Rattle.std.specs.Prelude.{◌≡◌, ℕ, ◌<◌, ◌≤◌, List, [], ◌∷◌, ◌++◌, length, Option, Some, None}
 use Rattle.std.specs.Io.KnownBytes.{IsAtEnd, prepend_known}
 use Rattle.command_rows.specs.Vocabulary.{Command, Rose, SourceState, TookAll}
@@ -11,19 +11,19 @@ use Rattle.geli_core.specs.Trace.{Trace, answers_of, lines_of}
 use Rattle.geli_core.specs.Vocabulary.{Sep, command_in, line_limit, line_of, script_images}
 use Rattle.geli_core.specs.declared.status.Status.{Status}
 
--- the bytes are fewer than are too many for a script, and wherever no newline stands among them, they are at most those
--- of a line
+-- the bytes are fewer than are too many for a script, and at any place those without a newline among them are at most
+-- those of a line
 pub record IsWithinLimits (bytes : List ℕ) : Type 0 where
   pub small : length bytes < script_limit
   pub short : (before line after : List ℕ) → bytes ≡ before ++ line ++ after → IsOneLine line → length line ≤ line_limit
 
--- a source didn't fail, and the bytes that it told and gave are within the limits
+-- a source didn't fail, and the bytes that it reported and gave are within the limits
 pub record GaveWithinLimits (old new : SourceState) : Type 0 where
   pub quiet : Rose old.faults new.faults → ⊥
   pub within : (bytes : List ℕ) → old.left ≡ prepend_known bytes new.left → IsWithinLimits bytes
 
--- the lines of the trace are all of these, the drawers were closed, and all answers and the refusals of the closing
--- were printed: the status is Done where no refusal is among them, and else SomeRefused
+-- the lines of the trace are all of these, the drawers were closed, and all replies and the refusals of the closing
+-- were printed: the status is Done if no refusal is among them, and else SomeRefused
 pub record RunsToEnd (sep : Sep) (lines : List (List ℕ)) (old : Whole) (trace : Trace) (status : Status) (new : Whole) : Type 0 where
   pub cut_by : trace.sep ≡ sep
   pub all : lines_of trace.lines ≡ lines

@@ -12,7 +12,7 @@ use Rattle.readings.specs.Ever.{ever}
 use Rattle.readings.specs.Read.{read_sector}
 use Rattle.geli_core.specs.Vocabulary.{AttachAnswers, ReadAnswers, ReadsWithCauses, SectorRequest, Step, cell, chosen, moment, request}
 
--- ---- what a read answers
+-- ---- what a read returns
 
 -- this holds of each of so many logical sectors and what it reads as
 abbrev pub EachReads : (ℕ → Result (List ℕ) ℕ → Type 0) → ℕ → ℕ → List (Result (List ℕ) ℕ) → Type 0
@@ -27,15 +27,15 @@ pub record ReadTogether (P : ℕ → Result (List ℕ) ℕ → Type 0) (sector c
   pub each : EachReads P sector count readings
   pub together : joined readings ≡ answer
 
--- a read answers what its logical sectors are together; or the range passes the end, or the disk failed
+-- a read returns what its logical sectors are together; or the range passes the end, or the disk failed
 abbrev pub AnswersBy : (ℕ → Result (List ℕ) ℕ → Type 0) → SectorRequest → List ℕ → Result (Unit {0}) ReadFault → DiskState → DiskState → Type 0
 AnswersBy P r bytes (Ok done) old new = ReadTogether P r.sector r.count (Ok bytes)
 AnswersBy P r bytes (Err (read.Integrity offset)) old new = ReadTogether P r.sector r.count (Err offset)
 AnswersBy P r bytes (Err (read.OutOfRange sector count media)) old new = r.media < r.sector + r.count
 AnswersBy P r bytes (Err read.DeviceFault) old new = Rose old.faults new.faults
 
--- so does each read of a provider with this keying on a disk with this image, which the disk has still, for the next
--- read
+-- each read of a provider with this keying on a disk with this image returns what `AnswersBy` says, and the disk still
+-- has the image for the next read
 abbrev pub ReadsBy : {D : Type 0} → (D → DiskState) → List (List ℕ) → Keying → (ℕ → Result (List ℕ) ℕ → Type 0) → Type 0
 ReadsBy {D} state image k P = (sector : ℕ) (into bytes : List ℕ) (old new : Attached D) (answer : Result (Unit {0}) ReadFault) →
     HasImage image (state old.disk) → old.keying ≡ k → ReadAnswers state (request state old sector into) bytes old new answer →
@@ -57,12 +57,12 @@ OpensAndReads {D} state image P = (m : Metadata) (params : Params) (key : List �
 
 -- ---- what a logical sector of a survivor reads as
 
--- in a whole image, as the writings that the image chose from the cells
+-- in a whole image, a logical sector reads as the writings that the image chose from the cells
 abbrev pub ReadsAsChosen : Content → List Step → ℕ → (ℕ → ℕ) → Keying → ℕ → Result (List ℕ) ℕ → Type 0
 ReadsAsChosen c steps t choice k sector reading = reading ≡ read_sector k sector (chosen k sector (cell c (take t steps)) choice)
 
--- in a torn or altered one, as writings of the cells or strange bytes where such may be; each fault has its cause, and
--- what is accepted is known or forged
+-- in a torn or altered image, a logical sector reads as writings of the cells or strange bytes where such may be; each
+-- fault has its cause, and what is accepted is known or forged
 pub record ReadsAsStands (c : Content) (steps : List Step) (t : ℕ) (may_be_strange : ℕ → Type 0) (image : List (List ℕ)) (k : Keying) (sector : ℕ) (reading : Result (List ℕ) ℕ) : Type 0 where
   pub causes : ReadsWithCauses k sector (cell c (take t steps)) may_be_strange (ever c (take t steps)) image
   pub is : reading ≡ read_sector k sector causes.from.writings
@@ -70,7 +70,7 @@ pub record ReadsAsStands (c : Content) (steps : List Step) (t : ℕ) (may_be_str
 -- ---- the sentence
 
 -- Power fails after any number of these steps, or within the next. Whatever image is left, a disk with it is attached
--- with a key of one of its slots, or there was no memory; and then each read answers, logical sector by logical sector,
+-- with a key of one of its slots, or there was no memory; and then each read returns, logical sector by logical sector,
 -- what the chosen writings say.
 pub record ReadsAfterCrashes {D : Type 0} (state : D → DiskState) (steps : List Step) (c : Content) : Type 0 where
   pub whole : (t : ℕ) (choice : ℕ → ℕ) (image : List (List ℕ)) → IsImage (moment t steps c) choice image → OpensAndReads state image (ReadsAsChosen c steps t choice)

@@ -28,7 +28,7 @@ says_eject (Err usage) line name = false
 says_eject (Ok None) line name = false
 says_eject (Ok (Some command)) line name = takes_out command && names_by (provider_of command) line name
 
--- whether it was answered that it was done
+-- whether a line was answered that it was done
 abbrev pub is_done : Option Answer → Bool
 is_done (Some answers.Done) = true
 is_done answer = false
@@ -67,7 +67,7 @@ DrawerRuns sep (l ∷ lines) old events there last =
     × DrawerSteps sep l.line l.answer old first middle × DrawerRuns sep lines middle rest there last × (events ≡ first ++ rest))
     ⊎ (TakesDrawer sep l.line l.answer old × (there ≡ false) × (last ≡ old) × (events ≡ []))
 
--- where the drawer is there at last, it stands so in the list
+-- if the drawer is there at last, it stands so in the list
 abbrev pub IsLast : Bool → DrawerState → List DrawerState → Type 0
 IsLast true last drawers = (place : ℕ) × (slice_get drawers place ≡ Some last)
 IsLast false last drawers = Unit {0}

@@ -44,7 +44,7 @@ IsNotShelved NoMemory drawers = Unit {0}
 abbrev pub disks_of : List DrawerState → List DiskState
 disks_of drawers = map (λ drawer. drawer.disk) drawers
 
--- those on a shelf, if there is one
+-- the disks of the drawers on a shelf, if there is one
 abbrev pub disks_on : {D : Type 0} → (D → DiskState) → Option (Shelved D) → List DiskState
 disks_on state None = []
 disks_on state (Some shelf) = disks_of (drawers_of state shelf.drawers)
@@ -54,14 +54,14 @@ abbrev pub one_or_none : {D : Type 0} → (D → DiskState) → Option D → Lis
 one_or_none state None = []
 one_or_none state (Some disk) = state disk ∷ []
 
--- the disks that are handed back where no shelf takes all of them: those that one took, the one that it refused, and
--- those after it
+-- the disks that are handed back if no shelf takes all of them: those that one took, the one that it refused, and those
+-- after it
 abbrev pub disks_back : {D : Type 0} → (D → DiskState) → NotShelved D → List DiskState
 disks_back state refused = disks_on state refused.shelf ++ (one_or_none state refused.disk ++ map state refused.rest.items)
 
 -- a run of the words over disks under names: at first there is a drawer for each name, in order, in which the disk of
--- that place lies idle, and there is no other, nor one with the same name; of the run from these drawers to those that
--- are left at last holds all that is said of runs
+-- that place lies idle, and there is no other, nor one with the same name; all that is said of runs holds of the run
+-- from these drawers to those that are left at last
 pub record RunsOver (words names : List (List ℕ)) (disks : List DiskState) (old : OutsideState) (status : Status) (left : List DrawerState) (new : OutsideState) : Type 0 where
   pub differ : NamesDiffer (idle_drawers names disks)
   pub lawful : RunsLawfully words (whole_with (idle_drawers names disks) old) status (whole_with left new)

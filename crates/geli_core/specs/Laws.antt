@@ -12,18 +12,18 @@ use Rattle.geli_core.specs.Run.{PrintsAnswer, ServesLine}
 use Rattle.geli_core.specs.Vocabulary.{BecomesSo, Caused, OnlySteps, Sep, Usage, WriteEnd, line_reading, may_lack_memory}
 use Rattle.geli_core.specs.declared.serving.LineEnd.{LineEnd}
 
--- this holds of what was refused, if anything was
+-- this holds of the refusal, if the reply is one
 abbrev pub IfRefused : Answer → (Refusal → Type 0) → Type 0
 IfRefused (answers.Refused refusal) Holds = Holds refusal
 IfRefused answer Holds = Unit {0}
 
--- The laws that a command keeps. A refusal has its cause. Want of memory is answered only to verbs that may lack it.
--- Where the drawer that it names has what its verb needs, and nothing fails, it is served, or there was no memory and
--- its verb may lack it. It changes only the drawer that it names, whose disk logs events of the line. Where it changes
--- metadata, the disk holds the old or the new at each moment of it. What the drawer does with its disk changes by the
--- verbs that do that alone. No count of the cabinet or the entropy falls, and a failure of theirs is answered only
--- where its count rose. The files stay but for the one that `backup`, `init -B` or `verify` names, of which no more
--- than one store is made; no other verb makes a store.
+-- The laws that a command keeps. A refusal has its cause. Want of memory is the reply only to verbs that may lack it.
+-- If the drawer that it names has what its verb needs, and nothing fails, it is served, or there was no memory and its
+-- verb may lack it. It changes only the drawer that it names, whose disk logs events of the line. If it changes
+-- metadata, the disk holds the old or the new at each moment of it. What the drawer does with its disk changes only by
+-- the verbs that do that. No count of the cabinet or the entropy falls, and a failure of theirs is the reply only if
+-- its count rose. The files stay except the one that `backup`, `init -B` or `verify` names, of which no more than one
+-- store is made; no other verb makes a store.
 pub record KeepsLaws (line : List ℕ) (command : Command) (old : World) (answer : Answer) (new : World) : Type 0 where
   pub caused : IfRefused answer (λ refusal. Caused line command refusal old new)
   pub memory : IfRefused answer (λ refusal. refusal ≡ refusals.NoMemory → IsTrue (may_lack_memory command))
@@ -40,7 +40,7 @@ abbrev pub LineKeepsLaws : Result (Option Command) Usage → List ℕ → World 
 LineKeepsLaws (Ok (Some command)) line old (Some answer) new = KeepsLaws line command old answer new
 LineKeepsLaws read line old answer new = Unit {0}
 
--- a line was served, by the laws, and then its answer was printed
+-- a line was served, by the laws, and then its reply was printed
 pub record ServesLawfully (sep : Sep) (line : List ℕ) (old : World) (sink : SinkState) (result : Result LineEnd WriteEnd) (new : World) (after : SinkState) : Type 0 where
   pub answer : Option Answer
   pub serves : ServesLine sep line old answer new

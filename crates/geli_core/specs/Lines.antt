@@ -20,7 +20,7 @@ pub record CutsInto (bytes : List ℕ) (lines : List (List ℕ)) (rest : List �
   pub each : AllByRecursion IsOneLine lines
   pub behind : IsOneLine rest
 
--- a last line without a newline counts where it isn't empty
+-- a last line without a newline counts if it isn't empty
 abbrev pub last_line : List ℕ → List (List ℕ)
 last_line [] = []
 last_line (b ∷ bs) = (b ∷ bs) ∷ []

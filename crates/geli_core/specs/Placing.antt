@@ -12,7 +12,7 @@ use Rattle.geli_core.specs.Vocabulary.{Closes, Flushes, Play, Reads, Sep, Step, 
 
 -- ---- the play of a drawer: the steps done on its disk so far, its open requests, and the next line's number
 
--- nothing was done, and none is open that was submitted since
+-- nothing was done, and no request is open that was submitted since
 abbrev pub no_play : Play
 no_play = record { steps = []; tasks = []; next = 0 }
 
@@ -20,7 +20,7 @@ no_play = record { steps = []; tasks = []; next = 0 }
 abbrev pub goes_on : List Step → List Task → Play → Play
 goes_on steps tasks m = record { steps = m.steps ++ steps; tasks = tasks; next = m.next + 1 }
 
--- the writings that the cells hold after some steps, of a disk that tells what it had before
+-- the writings that the cells hold after some steps, of a disk that reports what it had before
 abbrev pub cells_after : Option Content → List Step → ℕ → List Writing
 cells_after None steps n = []
 cells_after (Some c) steps n = cell c steps n
@@ -46,13 +46,13 @@ abbrev pub tasks_submitted : Answer → Work → List Task → List Task
 tasks_submitted (answers.Tag tag) work tasks = put_task (record { tag = tag; done = 0; work = work }) tasks
 tasks_submitted answer work tasks = tasks
 
--- The next unit of a request was done, or not where the disk failed. One that was open before the run isn't known: what
--- it writes came in some other way.
+-- The next unit of a request was done, or it wasn't, if the disk failed. A request that was open before the run isn't
+-- known: what it writes came in some other way.
 abbrev pub request_steps : Keying → Option Task → List Event → List Step
 request_steps k None events = raw_steps events
 request_steps k (Some t) events = take (length events) (unit_steps k t.work t.done)
 
--- It isn't done where the step was refused. A read takes the writing that stands there now.
+-- The step of a request isn't done if it was refused. A read takes the writing that stands there now.
 abbrev pub tasks_stepped : Answer → Option Task → Keying → (ℕ → List Writing) → List Task → List Task
 tasks_stepped (answers.Left left) (Some t) k cells tasks = exchange_task (task_after k cells t) tasks
 tasks_stepped answer found k cells tasks = tasks
@@ -64,8 +64,8 @@ tasks_reaped (answers.Payload bytes) tag tasks = without_task tag tasks
 tasks_reaped (answers.Refused (refusals.Integrity offset)) tag tasks = without_task tag tasks
 tasks_reaped answer tag tasks = tasks
 
--- What a line that was answered so makes of the play of an attached drawer, by what its verb places and the events that
--- it logged. What is placed is listed, so that more is decided on.
+-- What a line with this reply makes of the play of an attached drawer, by what its verb places and the events that it
+-- logged. All that may be placed is listed, so that a new kind has to be decided on.
 abbrev pub place_played : List ℕ → Places → Keying → Option Content → Answer → List Event → Play → Play
 place_played line PlacesNothing k told answer events m = goes_on (raw_steps events) m.tasks m
 place_played line (PlacesBytes sector bytes) k told answer events m = goes_on (write_steps m.next k sector bytes events) m.tasks m
@@ -75,7 +75,7 @@ place_played line (PlacesUnit tag) k told answer events m =
     let found = task_with tag m.tasks in goes_on (request_steps k found events) (tasks_stepped answer found k (cells_after told m.steps) m.tasks) m
 place_played line (PlacesNoMore tag) k told answer events m = goes_on (raw_steps events) (tasks_reaped answer tag m.tasks) m
 
--- what a command that was answered so makes of the play of an attached drawer, as `place_played` says
+-- what a command with this reply makes of the play of an attached drawer, as `place_played` says
 abbrev pub command_played : List ℕ → Command → Keying → Option Content → Answer → List Event → Play → Play
 command_played line command k told answer events m = place_played line ((verb_of command).places line) k told answer events m
 
@@ -96,7 +96,7 @@ LinePlays told sep line answer old m next new = ((new ≡ old) × (next ≡ goes
 
 -- ---- lines
 
--- a drawer and its play while lines are served, where its disk told this content before the run: after each line it is
+-- a drawer and its play while lines are served, if its disk reported this content before the run: after each line it is
 -- one of the drawers of the world there
 abbrev pub DrawerPlaces : Option Content → Sep → List ServedLine → DrawerState → Play → Play → DrawerState → Type 0
 DrawerPlaces told sep [] old m last new = (new ≡ old) × (last ≡ m)

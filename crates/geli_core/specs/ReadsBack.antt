@@ -1,4 +1,4 @@
--- What you write is what you read: what the lines of a run that read logical sectors answer, from what its lines wrote
+-- What you write is what you read: what the lines of a run that read logical sectors return, from what its lines wrote
 -- before.
 use Rattle.std.specs.Prelude.{◌≡◌, ℕ, List, Option, Some, IfSome, Result, Ok, Err, All, Contains, slice_get}
 use Rattle.command_rows.specs.Rows.{Answer, Attachment, DrawerState, IsAttached, RunKind, World, place_of}
@@ -11,9 +11,9 @@ use Rattle.geli_core.specs.Survivors.{SurvivesBy}
 use Rattle.geli_core.specs.Trace.{ServedLine}
 use Rattle.geli_core.specs.Vocabulary.{Flushes, Play, Reads, Sep, Step, Work, Writes, cell, data_from, data_read, data_steps, task_with}
 
--- When a line comes that names this provider, after these lines, its drawer is attached. It was there at entry, and
--- did the steps of a play since, line by line. Where its disk told its content at entry, this holds of the keying that
--- is attached, of that content and of the play.
+-- When a line comes that names this provider, after these lines, its drawer is attached. It was there at entry, and did
+-- the steps of a play since, line by line. If its disk reported its content at entry, this holds of the keying that is
+-- attached, of that content and of the play.
 pub record StandsSo (sep : Sep) (entry : World) (served : List ServedLine) (start : World) (line : List ℕ) (prov : Span) (Holds : Keying → Content → Play → Type 0) : Type 0 where
   pub place : ℕ
   pub named : place_of (bytes_at line prov) start.drawers ≡ Some place
@@ -36,8 +36,8 @@ ReadsAsTask k read (Reads sector count ws) = data_from k sector count ws ≡ rea
 ReadsAsTask k read (Writes number sector count bytes) = ⊥
 ReadsAsTask k read Flushes = ⊥
 
--- So does the request with this tag that was submitted in the run. One of a drawer that had open requests at entry may
--- be one of those.
+-- the request with this tag that was submitted in the run is a read, whose writings read so; a request of a drawer that
+-- had open requests at entry may be one of those
 abbrev pub ReadsAsAsked : ℕ → Result (List ℕ) ℕ → Keying → Content → Play → Type 0
 ReadsAsAsked tag read k c m = IfSome (task_with tag m.tasks) (λ t. ReadsAsTask k read t.work)
 
@@ -50,10 +50,10 @@ IsAmongSteps steps k Flushes = Unit {0}
 abbrev pub IsDoneAsAsked : ℕ → Keying → Content → Play → Type 0
 IsDoneAsAsked tag k c m = IfSome (task_with tag m.tasks) (λ t. IsAmongSteps m.steps k t.work)
 
--- A `read` is answered by the bytes of its logical sectors, as the writings say that stand there last, and a `sum` by
--- their SHA-256; or a fault at a byte offset by the first that they say. A `reap` of a read is answered by the bytes of
--- the writings that stood in its device sectors at its own steps, or by the first fault that they say; and when a write
--- is reaped, each of its units was done. Each kind is listed, so that a new one has to be decided on.
+-- A `read` returns the bytes of its logical sectors, as the writings say that stand there last, and a `sum` their
+-- SHA-256; or a fault at a byte offset, the first that they say. A `reap` of a read returns the bytes of the writings
+-- that stood in its device sectors at its own steps, or the first fault that they say. When a write is reaped, each of
+-- its units was done. Each kind is listed, so that a new one has to be decided on.
 abbrev pub LineReads : Sep → World → List ServedLine → World → RunKind → List ℕ → Option Answer → Type 0
 LineReads sep entry served start (kinds.OfRead prov sector count) line (Some (answers.Payload bytes)) =
     StandsSo sep entry served start line prov (λ k c m. data_read k sector count (cell c m.steps) ≡ Ok bytes)

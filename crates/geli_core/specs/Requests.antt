@@ -10,9 +10,9 @@ use Rattle.geli_core.specs.Survivors.{HasNoRequests, SurvivesBy}
 use Rattle.geli_core.specs.Trace.{ServedLine}
 use Rattle.geli_core.specs.Vocabulary.{Flush, Flushes, IsCovered, Play, Reads, ReapRow, Sep, Step, StepRow, SubmitRow, Work, Writes, data_steps, job_of, task_with}
 
--- ---- whose they are
+-- ---- whose the requests are
 
--- the requests that are open on a drawer are of its provider, as it is: that would make them of their jobs
+-- the requests that are open on a drawer are of its provider, as it is: that provider would make them of their jobs
 abbrev pub HoldsOwn : Holding → DiskState → Type 0
 HoldsOwn holding disk = IfSome (attachment_in holding) (λ a. AreAllOf a.keying (media a.keying disk) a.queue)
 
@@ -30,7 +30,7 @@ LacksTag tag holding = AttachedWith holding (λ a. request_with tag a.queue ≡ 
 
 -- ---- what a flush covers
 
--- it covers each unit of a write
+-- a flush covers each unit of a write
 abbrev pub CoversWork : List Step → Keying → Work → Type 0
 CoversWork steps k (Reads sector count ws) = ⊥
 CoversWork steps k (Writes number sector count bytes) = All (IsCovered steps) (data_steps number k sector count bytes)
@@ -65,7 +65,7 @@ pub record IsRequestDoneAlone (line : List ℕ) (asked : JobWords) (a : Attachme
   pub reaped : AttachedWith done.holding (λ b. ReapRow tag b done answer new)
   pub there : answer ≢ Err (refusals.NoRequest tag)
 
--- what `read`, `write` or `flush` does and answers in place of it
+-- what `read`, `write` or `flush` does and returns in place of a request alone
 abbrev pub DoesAsLine : List ℕ → JobWords → Attachment → Reach → Result (Option (List ℕ)) Refusal → Reach → Type 0
 DoesAsLine line (words.Read sector count) a old (Ok (Some bytes)) new =
     (sector + count ≤ media a.keying old.disk) × Logs [] old.disk new.disk × ReadsAs old.disk a.keying sector count (Ok bytes)

@@ -1,4 +1,4 @@
--- What lines do and answer, one after another, and what is printed.
+-- What lines do and return, one after another, and what is printed.
 use Rattle.std.specs.Prelude.{◌++◌, ◌≡◌, ◌≤◌, ℕ, List, [], ◌∷◌, replicate, Option, Some, None, Bool, true, false, Result, Ok, Err}
 use Rattle.std.specs.List.{flat_map, list_any}
 use Rattle.command_rows.specs.Rows.{Answer, World, answer_text}
@@ -11,7 +11,7 @@ use Rattle.geli_core.specs.declared.serving.LineEnd.TheVariants.{Silent, Accepte
 
 -- ---- one line
 
--- what a line says is done and answered: nothing where it says nothing, the refusal of its words, or the turn of its
+-- what a line says is done and answered: nothing if it says nothing, the refusal of its words, or the turn of its
 -- command
 abbrev pub ServesReading : Result (Option Command) Usage → List ℕ → World → Option Answer → World → Type 0
 ServesReading (Ok None) line old answer new = (answer ≡ None) × (new ≡ old)
@@ -39,14 +39,14 @@ is_refusal Silent = false
 is_refusal Accepted = false
 is_refusal Refused = true
 
--- where nothing was answered, the line is silent and the sink is as it was; else the answer was printed, or the sink
--- failed, after a part of it
+-- if there is no reply, the line is silent and the sink is as it was; else the reply was printed, or the sink failed,
+-- after a part of it
 abbrev pub PrintsAnswer : Option Answer → SinkState → Result LineEnd WriteEnd → SinkState → Type 0
 PrintsAnswer None old result new = (result ≡ Ok Silent) × (new ≡ old)
 PrintsAnswer (Some answer) old (Ok end) new = (end ≡ end_of (Some answer)) × TookAll (answer_text answer) old new
 PrintsAnswer (Some answer) old (Err failed) new = TookPart (answer_text answer) old new
 
--- a line was served, and then its answer was printed
+-- a line was served, and then its reply was printed
 pub record ServesAndPrints (sep : Sep) (line : List ℕ) (old : World) (sink : SinkState) (result : Result LineEnd WriteEnd) (new : World) (after : SinkState) : Type 0 where
   pub answer : Option Answer
   pub serves : ServesLine sep line old answer new
@@ -54,11 +54,11 @@ pub record ServesAndPrints (sep : Sep) (line : List ℕ) (old : World) (sink : S
 
 -- ---- lines
 
--- the text of some answers
+-- the text of some replies
 abbrev pub answers_text : List (Option Answer) → List ℕ
 answers_text answers = flat_map text_of answers
 
--- all answers but the last were printed, and the sink failed in the last, which is that to a line that says something
+-- all replies but the last were printed, and the sink failed in the last, which is that to a line that says something
 pub record FailsInLast (answers : List (Option Answer)) (old new : SinkState) : Type 0 where
   pub printed : List (Option Answer)
   pub last : Answer
@@ -82,7 +82,7 @@ any_refused answers = list_any refuses answers
 abbrev pub closing_answers : ℕ → List (Option Answer)
 closing_answers failed = replicate failed (Some (answers.Refused refusals.DeviceFault))
 
--- all answers were printed, some drawer failed to close, and the sink failed in the refusals of the closing
+-- all replies were printed, some drawer failed to close, and the sink failed in the refusals of the closing
 pub record FailsInClosing (answers : List (Option Answer)) (failed : ℕ) (old new : SinkState) : Type 0 where
   pub some : 1 ≤ failed
   pub middle : SinkState

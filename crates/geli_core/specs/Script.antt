@@ -27,8 +27,8 @@ script_limit = 2 ^ 40
 
 -- ---- what was printed
 
--- all answers, those of the closing after them; or, where the run broke off, those to its lines; or, where the sink
--- failed, up to a part of the last answer, or of the closing
+-- all replies, and after them those of the closing; or, if the run broke off, those to its lines; or, if the sink
+-- failed, up to a part of the last reply, or of the closing
 abbrev pub PrintsAnswers : List (Option Answer) → ℕ → SinkState → Status → SinkState → Type 0
 PrintsAnswers answers failed old Done new = (any_refused (answers ++ closing_answers failed) ≡ false) × TookAll (answers_text (answers ++ closing_answers failed)) old new
 PrintsAnswers answers failed old SomeRefused new = (any_refused (answers ++ closing_answers failed) ≡ true) × TookAll (answers_text (answers ++ closing_answers failed)) old new
@@ -81,8 +81,8 @@ pub record IsReadSoFar (taken : Taken) (served : List (List ℕ)) : Type 0 where
   pub unread : taken.unread ≡ []
   pub short : length taken.rest ≤ line_limit
 
--- how far a script was served, by the status: the first that is met of the end of the input, a failure and a limit ends
--- it
+-- how far a script was served, by the status: what ends it is the first that is met of the end of the input, a failure
+-- and a limit
 abbrev pub ServesUpTo : Taken → List (List ℕ) → List (Option Answer) → Whole → Status → Whole → Type 0
 ServesUpTo taken served answers old Done new = IsReadToEnd taken served old.source new.source
 ServesUpTo taken served answers old SomeRefused new = IsReadToEnd taken served old.source new.source
@@ -94,7 +94,7 @@ ServesUpTo taken served answers old BadWords new = ⊥
 ServesUpTo taken served answers old NoMemory new = ⊥
 
 -- a script was run: the source gave bytes, the lines of the trace among them were served, the drawers were closed, and
--- the answers were printed; no more bytes are taken from the source than make a script too long, and no further piece
+-- the replies were printed; no more bytes are taken from the source than make a script too long, and no further piece
 -- after the byte that ended it
 pub record RunsScript (old : Whole) (trace : Trace) (status : Status) (new : Whole) : Type 0 where
   pub sep : trace.sep ≡ Blanks
@@ -134,7 +134,7 @@ PrintsUsage old BadWords new = TookAll usage_text old new
 PrintsUsage old WriteFault new = TookPart usage_text old new
 PrintsUsage old status new = ⊥
 
--- and nothing was done
+-- the words asked for nothing: nothing was done but to print the usage line
 pub record Declines (old : Whole) (trace : Trace) (status : Status) (new : Whole) : Type 0 where
   pub nothing : IsNothing trace
   pub source : new.source ≡ old.source
@@ -150,14 +150,14 @@ abbrev pub RunsAs : Option (List (List ℕ)) → List (List ℕ) → Whole → T
 RunsAs (Some names) words old trace status new = RunsScript old trace status new
 RunsAs None words old trace status new = RunsLine (line_of words) (command_in (line_of words)) old trace status new
 
--- the run of the words of the command line: a script where they are `script` and names, and else one command or
--- nothing; without memory for it nothing is read, printed or changed
+-- the run of the words of the command line: a script if they are `script` and names, and else one command or nothing;
+-- without memory for it nothing is read, printed or changed
 abbrev pub Runs : List (List ℕ) → Whole → Trace → Status → Whole → Type 0
 Runs words old trace NoMemory new = IsNothing trace × (new ≡ old)
 Runs words old trace status new = RunsAs (script_images words) words old trace status new
 
 -- how a run may end, by what the words ask for: a script by any status but BadWords, one command by those of its reply,
--- and else by BadWords; or the sink failed, or there was no memory
+-- and other words by BadWords; or the sink failed, or there was no memory
 abbrev pub EndsBy : Option (List (List ℕ)) → Option Command → Status → Type 0
 EndsBy names command WriteFault = Unit {0}
 EndsBy names command NoMemory = Unit {0}

@@ -32,13 +32,13 @@ pub record ServesLines (bytes : List ℕ) (old : SiteState) (rest : List ℕ) (n
   pub short : AllByRecursion (λ line. length line ≤ line_limit) (lines_of served)
   pub run : Run Blanks old.world served new.world
 
--- they were printed, and something was refused among them or not
+-- the lines were printed, and something was refused among them or not
 pub record IsServed (bytes : List ℕ) (old : SiteState) (rest : List ℕ) (refused : Bool) (new : SiteState) : Type 0 where
   pub serves : ServesLines bytes old rest new
   pub printed : TookAll (answers_text (answers_of serves.served)) old.sink new.sink
   pub any : any_refused (answers_of serves.served) ≡ refused
 
--- they were served, and the sink failed while they were printed
+-- the lines were served, and the sink failed while they were printed
 pub record IsUnprinted (bytes : List ℕ) (old : SiteState) (new : SiteState) : Type 0 where
   pub serves : ServesLines bytes old [] new
   pub printed : FailsInLast (answers_of serves.served) old.sink new.sink
@@ -119,12 +119,12 @@ abbrev pub EndsLines : List ℕ → SiteState → Result Bool WriteEnd → SiteS
 EndsLines bytes old (Ok refused) new = IsAllServed bytes old refused new
 EndsLines bytes old (Err failed) new = IsAllUnprinted bytes old new
 
--- the status where all was printed
+-- the status if all was printed
 abbrev pub status_by : Bool → Status
 status_by false = Done
 status_by true = SomeRefused
 
--- the refusals of the closing were printed, and this status is answered, something having been refused before or not
+-- the refusals of the closing were printed, and this is the status, something having been refused before or not
 abbrev pub PrintsClosing : Bool → ℕ → SinkState → Status → SinkState → Type 0
 PrintsClosing refused failed old WriteFault new = (1 ≤ failed) × TookPart (answers_text (closing_answers failed)) old new
 PrintsClosing refused failed old status new = (status ≡ status_by (refused || any_refused (closing_answers failed))) × TookAll (answers_text (closing_answers failed)) old new
@@ -137,13 +137,13 @@ pub record ClosesAndPrints (refused : Bool) (old : SiteState) (status : Status) 
 abbrev pub whole_of : SiteState → SourceState → Whole
 whole_of site source = record { world = site.world; source = source; sink = site.sink }
 
--- there is a trace of the run, which went so by it
+-- there is a trace of the run, by which the run is as described
 pub record Traced (R : Whole → Trace → Status → Whole → Type 0) (old : Whole) (status : Status) (new : Whole) : Type 0 where
   pub trace : Trace
   pub is_trace : IsTrace old.world trace new.world
   pub runs : R old trace status new
 
--- the run went so by this trace
+-- by this trace the run is as described
 abbrev pub ByTrace : (Whole → Trace → Status → Whole → Type 0) → Trace → Whole → Status → Whole → Type 0
 ByTrace R trace old status new = R old trace status new
 

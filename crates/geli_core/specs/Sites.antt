@@ -7,13 +7,13 @@ use Rattle.geli_core.specs.Vocabulary.{world_of}
 use Rattle.geli_core.specs.declared.outside.Outside.{Outside}
 use Rattle.geli_core.specs.declared.site.Site.{Site}
 
--- what it has now, by what sinks, cabinets, entropies and disks have
+-- what a site has now, by what sinks, cabinets, entropies and disks have
 abbrev pub site_now : {K C E D : Type 0} → (K → SinkState) → (C → CabinetState) → (E → EntropyState) → (D → DiskState)
     → Site K C E D → SiteState
 site_now sink cabinet entropy disk site =
     site_of (world_of disk site.shelf.now (cabinet site.files.now) (entropy site.entropy.now)) (sink site.output.now)
 
--- it borrows what it did
+-- the site borrows what it did
 abbrev pub BorrowsAsBefore : {K C E D : Type 0} → Site K C E D → Site K C E D → Type 0
 BorrowsAsBefore old new =
     (new.shelf.ghost_name ≡ old.shelf.ghost_name) × (new.output.ghost_name ≡ old.output.ghost_name)
@@ -25,13 +25,13 @@ abbrev pub outside_now : {S K C E : Type 0} → (S → SourceState) → (K → S
 outside_now source sink cabinet entropy outside =
     outside_of (cabinet outside.files.now) (entropy outside.entropy.now) (source outside.input.now) (sink outside.output.now)
 
--- it reaches what it did
+-- what a run reaches besides its drawers is borrowed as before
 abbrev pub ReachesAsBefore : {S K C E : Type 0} → Outside S K C E → Outside S K C E → Type 0
 ReachesAsBefore old new =
     (new.input.ghost_name ≡ old.input.ghost_name) × (new.output.ghost_name ≡ old.output.ghost_name)
     × (new.files.ghost_name ≡ old.files.ghost_name) × (new.entropy.ghost_name ≡ old.entropy.ghost_name)
 
--- and that is as it was
+-- what a run reaches besides its drawers is as it was
 abbrev pub HasAsBefore : {S K C E : Type 0} → Outside S K C E → Outside S K C E → Type 0
 HasAsBefore old new =
     (new.input.now ≡ old.input.now) × (new.output.now ≡ old.output.now)

@@ -21,9 +21,9 @@ HasNoRequests holding = IfSome (attachment_in holding) (λ a. a.queue ≡ [])
 abbrev pub HasTasks : Holding → List Task → Type 0
 HasTasks holding tasks = MatchOption (attachment_in holding) (tasks ≡ []) (λ a. a.queue ≡ map (request_of a.keying) tasks)
 
--- A drawer that is there in the end was there before under its name, and did the steps of this play line by line. Where
--- its disk tells its content, the history grew by exactly the events of the steps, and they endure crashes; and the
--- open requests are those of the play, where none was open before.
+-- A drawer that is there in the end was there before under its name, and did the steps of this play line by line. If
+-- its disk reports its content, the history grew by exactly the events of the steps, and they endure crashes; and the
+-- open requests are those of the play, if none was open before.
 pub record SurvivesBy (Plays : DrawerState → Play → DrawerState → Type 0) (olds : List DrawerState) (new : DrawerState) : Type 0 where
   pub before : DrawerState
   pub was : IsAmong olds before

@@ -24,7 +24,7 @@ StaysSuspendedThrough kept (l ∷ lines) old new =
     (middle : DrawerState) × IsAmong l.next.drawers middle × (middle.name ≡ old.name) × (old.holding ≡ IsSuspended kept) × Logs [] old.disk middle.disk
     × StaysSuspendedThrough kept lines middle new
 
--- it was suspended at entry, and has been so since
+-- the drawer was suspended at entry, and has been so since
 pub record SuspendedBefore (entry : World) (served : List ServedLine) (drawer : DrawerState) (kept : Kept) : Type 0 where
   pub before : DrawerState
   pub there : IsAmong entry.drawers before
@@ -49,7 +49,8 @@ pub record SuspendedSince (sep : Sep) (entry : World) (served : List ServedLine)
   pub keeps : kept ≡ kept_by a before.disk
   pub stays : StaysSuspendedThrough kept later after drawer
 
--- one of these two holds of each drawer that is suspended after these lines
+-- each drawer that is suspended after these lines was suspended at entry (`SuspendedBefore`) or by a line
+-- (`SuspendedSince`)
 abbrev pub AreSuspended : Sep → World → List ServedLine → World → Type 0
 AreSuspended sep entry served now = (drawer : DrawerState) (kept : Kept) → IsAmong now.drawers drawer → drawer.holding ≡ IsSuspended kept →
     SuspendedBefore entry served drawer kept ⊎ ((a : Attachment) × SuspendedSince sep entry served drawer kept a)
@@ -71,8 +72,8 @@ pub record HadMaster (sep : Sep) (entry : World) (served : List ServedLine) (dra
   pub same : (master ≡ a.keying.master) ⊎ AreCollision a.keying.master master
 
 -- A drawer that was suspended when the line came is attached after it, with a master key that the given key opens. Its
--- digest is the one that was kept; and where the drawer was suspended by one of the lines, it is the one that it had
--- then, or the two collide under SHA-256.
+-- digest is the one that was kept. If the drawer was suspended by one of the lines, the master key is the one that it
+-- had then, or the two collide under SHA-256.
 pub record ResumesSame (sep : Sep) (entry : World) (served : List ServedLine) (start : World) (line : List ℕ) (prov : Span) (words : KeyWords) (next : World) : Type 0 where
   pub place : ℕ
   pub named : place_of (bytes_at line prov) start.drawers ≡ Some place
@@ -88,7 +89,7 @@ pub record ResumesSame (sep : Sep) (entry : World) (served : List ServedLine) (s
   pub digest : sha256 a.keying.master ≡ kept.mark
   pub same : SuspendedBefore entry served before kept ⊎ HadMaster sep entry served before kept a.keying.master
 
--- a `resume` that is answered by Ok does
+-- a `resume` that is done does as `ResumesSame` says
 abbrev pub LineResumes : Sep → World → List ServedLine → World → RunKind → List ℕ → Option Answer → World → Type 0
 LineResumes sep entry served start (OfResume prov words) line (Some answers.Done) next = ResumesSame sep entry served start line prov words next
 LineResumes sep entry served start (OfResume prov words) line answer next = Unit {0}

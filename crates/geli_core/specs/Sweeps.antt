@@ -32,11 +32,11 @@ pub record HasDrawer (course : Course) (world : World) : Type 0 where
   pub keying : attachment.keying ≡ course.keying
   pub sectors : media course.keying drawer.disk ≡ course.sectors
 
--- what the file of the place has, where the cabinet tells that
+-- what the file of the place has, if the cabinet reports that
 abbrev pub place_file : Course → World → Option (Option (List ℕ))
 place_file course world = option_map (λ files. files course.file) world.cabinet.files
 
--- ---- its lines
+-- ---- the lines of a course
 
 -- what a `verify` asks for: over how many sectors it goes, and whether it begins anew
 pub record AskedSweep : Type 0 where
@@ -53,14 +53,14 @@ asked_by course line (OfReap prov tag) = None
 asked_by course line (OfResume prov words) = None
 asked_by course line OfOther = None
 
--- the counts of the lines that were answered that a part was swept
+-- the counts, and after them that of this line if it was answered that a part was swept
 abbrev pub counts_with : List ℕ → Option AskedSweep → Option Answer → List ℕ
 counts_with counts (Some asked) (Some (answers.Verified offsets next)) = counts ++ asked.count ∷ []
 counts_with counts asked answer = counts
 
 -- After parts with these counts, the first of which began at the first sector, a part goes from where they ended to
--- `next`: the units that fail there are listed. All together go over the sectors before `next`, each once; and where
--- their counts, each cut to the sectors of a part, reach the end, so do they.
+-- `next`: the units that fail there are listed. All together go over the sectors before `next`, each once. If their
+-- counts, each cut to the sectors of a part, reach the end, so do the parts.
 pub record IsNextPart (course : Course) (counts : List ℕ) (count : ℕ) (offsets : List ℕ) (next : ℕ) (old new : World) : Type 0 where
   pub before : HasDrawer course old
   pub after : DrawerState
@@ -90,12 +90,12 @@ EachGoesOn course counts sep start (l ∷ lines) =
     SweepsPart course counts (asked_by course l.line (kind_read (line_reading sep l.line))) start l.answer l.next
     × EachGoesOn course (counts_with counts (asked_by course l.line (kind_read (line_reading sep l.line))) l.answer) sep l.next lines
 
--- a course begins with a line that begins anew and is answered that a part was swept, where the cabinet tells its files
+-- a course begins with a line that begins anew and is answered that a part was swept, if the cabinet reports its files
 abbrev pub BeginsCourse : Course → Option AskedSweep → World → Option Answer → Type 0
 BeginsCourse course (Some asked) old (Some (answers.Verified offsets next)) = (asked.restart ≡ true) × IsSome old.cabinet.files × HasDrawer course old
 BeginsCourse course asked old answer = ⊥
 
--- so does each that begins in the run
+-- each course that begins in the run goes on as long as its lines keep to it
 abbrev pub EachBegins : Course → Sep → World → List ServedLine → Type 0
 EachBegins course sep start [] = Unit {0}
 EachBegins course sep start (l ∷ lines) =

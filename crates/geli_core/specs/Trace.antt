@@ -1,10 +1,10 @@
--- A run as a value: the lines that were served, the answers to them, and the worlds between them.
+-- A run as a value: the lines that were served, the replies to them, and the worlds between them.
 use Rattle.std.specs.Prelude.{◌≡◌, ℕ, List, [], ◌∷◌, ◌++◌, map, Option, Some, None}
 use Rattle.command_rows.specs.Rows.{Answer, World}
 use Rattle.geli_core.specs.Run.{ServesLine}
 use Rattle.geli_core.specs.Vocabulary.{ClosesWorld, Sep}
 
--- a line that was served, what was answered to it, and the world after it
+-- a line that was served, the reply to it, and the world after it
 pub record ServedLine : Type 0 where
   pub line : List ℕ
   pub answer : Option Answer
@@ -35,8 +35,7 @@ abbrev pub EachLine : (List ServedLine → World → ServedLine → Type 0) → 
 EachLine P served start [] = Unit {0}
 EachLine P served start (l ∷ lines) = P served start l × EachLine P (served ++ l ∷ []) l.next lines
 
--- how lines are cut into words, the lines, and how many drawers failed to close; where nothing was done, none were
--- closed
+-- how lines are cut into words, the lines, and how many drawers failed to close; if nothing was done, none were closed
 pub record Trace : Type 0 where
   pub sep : Sep
   pub lines : List ServedLine

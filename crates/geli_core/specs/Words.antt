@@ -6,7 +6,7 @@ use Rattle.geli_core.specs.Vocabulary.{command_in, line_of, name_at, script_imag
 use Rattle.geli_core.specs.declared.words.Words.{Words}
 use Rattle.geli_core.specs.declared.words.Words.TheVariants.{Script, One, Usage}
 
--- these words say it: a script, one command that stands in their line, or neither
+-- what these words say: a script, one command that stands in their line, or neither
 abbrev pub Says : List (List ℕ) → Words → Type 0
 Says words (Script names) = script_images words ≡ Some (map string_bytes names.now)
 Says words (One line command) = (script_images words ≡ None) × (line.items ≡ line_of words) × (command_in (line_of words) ≡ Some command)

@@ -15,12 +15,12 @@ use block_traits::{Cabinet, Disk, Entropy, Sink, Source};
 use shelf::{AddFault, Drawers, Shelf};
 use std::alloc::Global;
 
-/// Why no shelf took all disks, and all of them again.
+/// Why no shelf took all of the disks, and the disks themselves, handed back.
 #[derive(Drop)]
 pub struct NotShelved<D: Drop> {
     /// Why the shelf refused one.
     pub fault: AddFault,
-    /// The shelf, which has those before it, if there was memory for a shelf.
+    /// The shelf with the disks before that one, if there was memory for a shelf.
     pub shelf: Option<Drawers<D>>,
     /// The disk that was refused, if there was a shelf.
     pub disk: Option<D>,
@@ -28,9 +28,9 @@ pub struct NotShelved<D: Drop> {
     pub rest: Vec<D>,
 }
 
-/// Puts disks on a shelf, the disk at a place under the name of that place, and does over it what the words of the
-/// command line ask for. The shelf comes back as the run left it. A shelf that doesn't take all of them is a refusal:
-/// the disks come back as they were, and nothing was read, printed, stored or drawn.
+/// Puts disks on a shelf, each under the name at its place, and does over the shelf what the words of the command line
+/// ask for. The shelf comes back as the run left it. A shelf that doesn't take all of them is a refusal: the disks come
+/// back as they were, and nothing was read, printed, stored or drawn.
 pub fn run_images<S: Source, K: Sink, C: Cabinet, E: Entropy>(
     alloc: Global,
     words: &[String],
@@ -66,7 +66,8 @@ pub fn run_images<S: Source, K: Sink, C: Cabinet, E: Entropy>(
     Ok((status, shelf))
 }
 
-/// Runs words that were read over drawers of these names and disks, which are of any one type and needn't be boxed.
+/// Runs words that were already read, over drawers of these names and disks. The disks are of any one type and needn't
+/// be boxed.
 pub fn run_over<S: Source, K: Sink, C: Cabinet, E: Entropy, D: Disk>(
     alloc: Global,
     said: &Words<'_>,

@@ -1,4 +1,4 @@
-//! The run of the program: what the words ask for is done, printed and answered by a status.
+//! The run of the program: it does what the words ask for, prints the replies, and ends with a status.
 #![tactic(auto)]
 
 mod bounds;

@@ -11,13 +11,13 @@ use command_words::Sep;
 use reply_text::WriteEnd;
 use shelf::Drawers;
 
-/// Reads, serves and prints one line of at most 300,000 bytes. `Silent` comes exactly where the line says nothing, and
-/// `Refused` exactly where the printed reply is a refusal. `WriteEnd` comes only where the sink failed; the line was
+/// Reads, serves and prints one line of at most 300,000 bytes. It returns `Silent` exactly if the line says nothing,
+/// and `Refused` exactly if the printed reply is a refusal. It returns `WriteEnd` only if the sink failed; the line was
 /// served all the same.
 ///
-/// What the law `a_line_keeps_the_laws` says holds of each such line, whatever its row: why it's refused, that it is
-/// served where there is no cause of a refusal, which lines never answer want of memory, which drawer changes, and what
-/// its last sector may hold at each moment of a line that changes metadata, whenever power fails.
+/// What the law `a_line_keeps_the_laws` says holds of each such line, whatever its row: why it is refused, that it is
+/// served if there is no cause of a refusal, and which lines never lack memory. It also says which drawer changes, and
+/// what the last sector of that may hold at each moment of a line that changes metadata, whenever power fails.
 pub fn serve_line<K: Sink, C: Cabinet, E: Entropy, D: Disk>(
     shelf: &mut Drawers<D>,
     line: &[u8],

@@ -15,7 +15,7 @@ pub struct Outside<'a, S, K, C, E> {
 }
 
 impl<'a, S, K, C, E> Outside<'a, S, K, C, E> {
-    /// What borrows these, one as long as another.
+    /// Borrows these, all for the same lifetime.
     pub fn new(
         input: &'a mut S,
         output: &'a mut K,

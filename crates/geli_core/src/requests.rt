@@ -14,16 +14,16 @@ ghost use Rattle.geli_core.specs.Requests.{CoversReaped, DoesAsLine, HaveNoReque
 ghost use Rattle.geli_core.specs.Trace.{Run, ServedLine};
 ghost use Rattle.range_keys.specs.Ring.{IsKeying};
 
-/// The requests that are open on a drawer of a run are of its provider, as it is, where none was open on any drawer at
-/// first: so on each shelf to which its disks were added. What a line asks for is made of the provider that is
+/// The requests that are open on a drawer of a run are of its provider, as it is, if none was open on any drawer at
+/// first. So it is on each shelf to which its disks were added. What a line asks for is made of the provider that is
 /// attached, which stays as it is while they are open.
 pub fn requests_are_of_their_providers()
     ensures { (sep : Sep) (lines : List ServedLine) (old new : World) →
         Run sep old lines new → HoldKeyings old.drawers → HaveNoRequests old.drawers → HoldOwn new.drawers }
 {}
 
-/// On an attached drawer whose requests are of its provider, `step` and `reap` are refused with `NoRequest` exactly
-/// where no open request has the tag.
+/// On an attached drawer whose requests are of its provider, `step` and `reap` are refused with `NoRequest` exactly if
+/// no open request has the tag.
 pub fn missing_requests_are_refused()
     ensures step { (line : List ℕ) (prov : Span) (tag : ℕ) (a : Attachment) (old new : Reach) (said : Answer) →
         old.holding ≡ IsAttached a → HoldsOwn old.holding old.disk → Serves line (Step prov tag) old said new →
@@ -34,8 +34,8 @@ pub fn missing_requests_are_refused()
 {}
 
 /// A flush covers each write that was reaped before it was submitted, whatever lines come between: after the lines from
-/// the `reap` on, a flush follows each unit of the write. The request was submitted in the run, on a drawer whose
-/// disk tells its content.
+/// the `reap` on, a flush follows each unit of the write. The request was submitted in the run, on a drawer whose disk
+/// reports its content.
 pub fn flushes_cover_reaped_writes()
     ensures { (sep : Sep) (served : List ServedLine) (entry start : World) (reap : ServedLine) (prov : Span) (tag : ℕ)
         (rest : List ServedLine) (end : World) (drawer : DrawerState) →
@@ -44,9 +44,9 @@ pub fn flushes_cover_reaped_writes()
 {}
 
 /// A request that is submitted, done step by step and reaped, with no other line between and no step that the disk
-/// failed, does and answers what `read`, `write` or `flush` does in its place: a read logs nothing and answers the
-/// bytes of its logical sectors as they stood when it was submitted, or the first unit whose tag differs; a write logs
-/// the same events; a flush is one.
+/// failed, does and returns what `read`, `write` or `flush` does in its place. A read logs nothing and returns the
+/// bytes of its logical sectors as they stood when it was submitted, or the first unit whose tag differs. A write logs
+/// the same events as `write`; a flush is one flush.
 pub fn requests_alone_are_lines()
     ensures { (line : List ℕ) (asked : JobWords) (a : Attachment) (old new : Reach) (answer : Result (Option (List ℕ)) Refusal) →
         old.holding ≡ IsAttached a → IsKeying a.keying → IsRequestDoneAlone line asked a old answer new → DoesAsLine line asked a old answer new }

@@ -14,8 +14,8 @@ ghost use Rattle.std.specs.Prelude.{◌≡◌};
 
 use shelf::Drawers;
 
-/// What a run works on: its drawers, and what it reaches besides them but for its input. Its methods stand beside what
-/// they do.
+/// What a run works on: its drawers, and what it reaches besides them but for its input. Each of its methods stands in
+/// the file about what it does.
 #[derive(Drop)]
 pub(crate) struct Site<'a, K, C, E, D: Drop> {
     pub(crate) shelf: &'a mut Drawers<D>,
@@ -25,7 +25,7 @@ pub(crate) struct Site<'a, K, C, E, D: Drop> {
 }
 
 impl<'a, K, C, E, D: Drop> Site<'a, K, C, E, D> {
-    /// What borrows these, one as long as another.
+    /// Borrows these, all for the same lifetime.
     pub(crate) fn new(
         shelf: &'a mut Drawers<D>,
         output: &'a mut K,

@@ -2,7 +2,7 @@
 ghost use Rattle.std.specs.Prelude.{◌≡◌};
 ghost use Rattle.geli_core.specs.Status.{status_number};
 
-/// How a run ended, with which number the program exits.
+/// How a run ended. Each status has a number, with which the program exits.
 #[derive(Clone, Copy, Debug, PartialEq, Eq)]
 pub enum Status {
     /// The input was read to its end, or one command was given, and nothing was refused.

@@ -13,8 +13,8 @@ ghost use Rattle.command_rows.specs.World.{DrawerState, HoldKeyings, IsAmong, Wo
 
 use block_traits::Disk;
 
-/// What is attached after some lines has a keying that a provider may have, where that was so before. It is so of the
-/// drawers of every shelf, as the law `Drawers::hold_keyings` says; these laws are about any two worlds, and so must
+/// What is attached after some lines has a keying that a provider may have, if that was so before them. It is so of the
+/// drawers of every shelf, as the law `Drawers::hold_keyings` says. These laws are about any two worlds, and so must
 /// say it.
 pub fn lines_keep_keyings()
     ensures { (sep : Sep) (lines : List ServedLine) (old new : World) →
@@ -22,10 +22,10 @@ pub fn lines_keep_keyings()
 {}
 
 /// Each drawer that is there after some lines was there before, and did the steps of its lines: a `write` placed the
-/// units of its logical sectors, or the first of them where the disk failed, with a number of its own and under the
-/// keying that was attached; all else is bytes that came in some other way. The history of its disk grew by exactly the
-/// events of the steps. So if power fails at any moment of the lines, each image that is left reads as `Endures`
-/// promises. Of a drawer that a line takes away the same holds after the lines before that one.
+/// units of its logical sectors, or the first of them if the disk failed, with a number of its own and under the keying
+/// that was attached; all else is bytes that came in some other way. The history of its disk grew by exactly the events
+/// of the steps. So if power fails at any moment of the lines, each image that is left reads as `Endures` promises. A
+/// drawer that a line takes away has all of this after the lines before that one.
 pub fn lines_survive_crashes()
     ensures { (sep : Sep) (lines : List ServedLine) (old new : World) →
         Run sep old lines new → HoldKeyings old.drawers → EachSurvives sep old lines new }
@@ -39,13 +39,13 @@ pub fn runs_survive_crashes()
 
 /// The headline as one sentence. Power fails at any moment of a run, before or within any write of a device sector; the
 /// image that is left of a drawer, whole, torn or altered, is attached with a key of one of its slots. Then there was
-/// no memory, or the provider has the keying of the metadata and the master key of that slot, which is one that a
-/// provider may have, and each read that it answers is, logical sector by logical sector, what the writings say that
-/// the image chose from the cells of the run; or the range passes the end, or the disk failed.
+/// no memory; or the provider has the keying of the metadata and the master key of that slot, which is one that a
+/// provider may have. And each read of it returns, logical sector by logical sector, what the writings say that the
+/// image chose from the cells of the run; or the range passes the end, or the disk failed.
 ///
-/// Clause `steps` says it of any steps that endure crashes; `lines` of those of a drawer that is there after some
-/// lines, by what is said of it there; and `runs` of those at exit, by what `geli_main`, `run` and `run_images` ensure
-/// of a run.
+/// Clause `steps` says this of any steps that endure crashes; clause `lines` of those of a drawer that is there after
+/// some lines, by what is said of it there. Clause `runs` says it of those at exit, by what `geli_main`, `run` and
+/// `run_images` ensure of a run.
 pub fn crashed_runs_attach_and_read<D: Disk>()
     ensures steps { (steps : List Step) (c : Content) → EnduresCrashes steps c → ReadsAfterCrashes D.state steps c }
     ensures lines { (sep : Sep) (entry now : World) (served : List ServedLine) (survive : EachSurvives sep entry served now) (drawer : DrawerState) →

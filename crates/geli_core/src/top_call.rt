@@ -27,9 +27,10 @@ const USAGE: &[u8] = b"usage: geli script IMAGE... or geli VERB ...\n";
 
 /// Does what the words of the command line ask for, on the disks of the shelf, and prints the replies.
 ///
-/// `script` and one to sixteen different names read lines from the input to its end, and each is served and its answer
-/// printed before the next. All other words are one command, and the input isn't read. At the end the drawers are
-/// closed, and a refusal is printed for each flush that failed. Where the words are neither, the usage line is printed.
+/// `script` and one to sixteen different names ask for a script: lines are read from the input to its end, and each is
+/// served and its reply printed before the next. All other words are one command, and the input isn't read. At the end
+/// the drawers are closed, and a refusal is printed for each flush that failed. If the words are neither, the usage
+/// line is printed.
 pub fn geli_main<S: Source, K: Sink, C: Cabinet, E: Entropy>(
     alloc: Global,
     words: &[String],
@@ -64,7 +65,7 @@ fn end_without_memory<D: Disk>(shelf: &Drawers<D>) -> Status
     Status::NoMemory
 }
 
-/// The run over drawers of disks of any one type, of words that were read.
+/// Runs words that were already read, over drawers of disks of any one type.
 pub fn run<S: Source, K: Sink, C: Cabinet, E: Entropy, D: Disk>(
     alloc: Global,
     said: &Words<'_>,

@@ -16,12 +16,12 @@ pub enum Words<'a> {
     Script(&'a [String]),
     /// One command, with the line of the words.
     One {
-        /// The words between zero bytes.
+        /// The words, with zero bytes between them.
         line: Vec<u8>,
         /// The command that they say.
         command: Command,
     },
-    /// Neither.
+    /// Neither a script nor a command.
     Usage,
 }
 

@@ -10,7 +10,7 @@ use std::test::Fail;
 const HEAD: &[u8] =
     b"GEOM::ELI\0\0\0\0\0\0\0\x07\0\0\0\0\x02\0\0\x16\0\x80\0\0\0\0\0\x10\0\0\0\0\0\0\x10\0\0\x01\xe8\x03\0\0";
 
-// The MD5 of these and of a salt and slots of zeros, by python3's hashlib.
+// The MD5 of these 47 bytes and of a salt and slots of zeros, by python3's hashlib.
 const DIGEST: &[u8] = b"\x52\xeb\x10\x78\xb5\x82\x36\xa5\xab\x0b\x65\xf2\x43\x88\x88\x71";
 
 // Puts bytes at a place of a sector, as far as it reaches.

@@ -5,7 +5,7 @@ use crash_disk::MemSink;
 use std::alloc::Global;
 use std::test::Fail;
 
-// How many calls of its one disk a script makes, with those of the closing. It is to print this.
+// How many calls of its one disk a script makes, with those of the closing. The script must print `printed`.
 fn calls_of(alloc: Global, script: &str, printed: &str) -> Result<u64, Fail> {
     let mut world = World::new(alloc)?;
     let mut output = MemSink::new(alloc, &[], &[], 64)?;
@@ -16,8 +16,8 @@ fn calls_of(alloc: Global, script: &str, printed: &str) -> Result<u64, Fail> {
     Ok(world.calls())
 }
 
-// The closing flushes an attached disk. One that was ejected before gets no call any more, attached or not, also where
-// a write wasn't flushed.
+// The closing flushes an attached disk. One that was ejected before gets no call any more, attached or not, even if a
+// write wasn't flushed.
 #[test]
 fn an_ejected_disk_gets_no_call(rt: HostRuntime) -> Result<(), Fail> {
     let alloc = rt.alloc();

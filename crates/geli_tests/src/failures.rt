@@ -27,8 +27,8 @@ fn ended(
     Ok((status.number(), output.bytes().len()))
 }
 
-// Whether a sink that takes a byte a call takes this of two runs, where this call fails: the status of the first, how
-// many bytes it took of that, the status of the second, and all bytes.
+// Whether a sink that takes one byte at each call, of which the call number `call` fails, takes this of two runs: the
+// status of the first, how many bytes it took of that, the status of the second, and all bytes.
 fn is_taken(
     alloc: Global,
     first: &str,

@@ -1,4 +1,4 @@
-//! Files that can't be loaded or stored: each refusal tells its own cause, and none of them tells want of memory.
+//! Files that can't be loaded or stored: each refusal names its own cause, and none of them is want of memory.
 use crate::common::{stock, words};
 use crash_disk::{MemCabinet, MemDisk, MemEntropy, MemSink, MemSource};
 use geli_core::{Drawers, Outside, read_words, run};
@@ -14,7 +14,7 @@ fn cabinet(alloc: Global, fails: &[u64]) -> Result<MemCabinet, Fail> {
     Ok(files)
 }
 
-// Whether the words print this, where these calls of the cabinet fail.
+// Whether the words print this, if these calls of the cabinet fail.
 fn prints(
     alloc: Global,
     shelf: &mut Drawers<MemDisk>,
@@ -33,7 +33,7 @@ fn prints(
     Ok(output.bytes() == want.as_bytes())
 }
 
-// Words, the call of the cabinet that fails, if one does, and what is printed. A word is told by its number.
+// Words, the call of the cabinet that fails, if one does, and what is printed. A refusal gives a word by its number.
 const LINES: [(&str, &[u64], &str); 9] = [
     ("init -K k -J p -i 10 a.img", &[], "ok\n"),
     (

@@ -1,4 +1,4 @@
-//! A shelf whose boxes have disks of three kinds: none of them has a part in what another does.
+//! A shelf whose boxes have disks of three kinds: none of them is affected by what another does.
 use crate::common::{CountingDisk, stock, words};
 use block_traits::Disk;
 use crash_disk::{CallKind, FailAt, MemDisk, MemEntropy, MemSink, MemSource};
@@ -13,7 +13,7 @@ fn image(alloc: Global) -> Result<MemDisk, Fail> {
     Ok(MemDisk::new(alloc, 64, 64)?)
 }
 
-// One whose first forty writes fail.
+// A disk whose first forty writes fail.
 fn failing(alloc: Global) -> Result<MemDisk, Fail> {
     let mut disk = image(alloc)?;
     let mut fails = [FailAt {
@@ -36,7 +36,7 @@ fn add(shelf: &mut Shelf, name: &str, disk: Box<dyn Disk>) -> Result<(), Fail> {
     }
 }
 
-// What a script prints over the shelf, of whose images the words name all.
+// What a script prints over the shelf; the words name all of its images.
 fn printed(alloc: Global, shelf: &mut Shelf, line: &str, script: &str) -> Result<MemSink, Fail> {
     let mut output = MemSink::new(alloc, &[], &[], 1024)?;
     geli_main(
@@ -60,8 +60,8 @@ const BY_TURNS: &str = "init -P -K k a.img\ninit -P -K k b.img\ninit -P -K k c.i
 const REPLIES: &str =
     "ok\nerror 26 DeviceFault\nok\nok\nerror 5 BadMagic\nok\nok\nerror 26 DeviceFault\nok\n";
 
-// The first disk does what it does where it stands alone. The third gets a flush, a write and a flush, a read, a write
-// of one sector, and the flush of the closing.
+// The first disk does what it does if it is alone on a shelf. The third gets a flush, a write and a flush, a read, a
+// write of one sector, and the flush of the closing.
 #[test]
 fn three_kinds_on_one_shelf(rt: HostRuntime) -> Result<(), Fail> {
     let alloc = rt.alloc();

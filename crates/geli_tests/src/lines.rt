@@ -5,8 +5,7 @@ use geli_core::{Drawers, LineEnd, serve_line};
 use std::alloc::Global;
 use std::test::Fail;
 
-// Serves a line over a shelf with one idle drawer: what it comes to, or none where it can't be printed, and what is
-// printed.
+// Serves a line over a shelf with one idle drawer: how the line ended, or none if its reply can't be printed.
 fn served(
     alloc: Global,
     shelf: &mut Drawers<MemDisk>,
@@ -32,7 +31,7 @@ fn served(
 
 const PRINTED: &str = "a.img idle\nok\nerror 3 NotAttached\nerror 2 UnknownProvider\n";
 
-// A line of blanks says nothing; words may stand between zero bytes; a sink that fails is told.
+// A line of blanks says nothing; words may stand between zero bytes; a sink that fails is reported.
 #[test]
 fn a_line_is_served_by_itself(rt: HostRuntime) -> Result<(), Fail> {
     let alloc = rt.alloc();

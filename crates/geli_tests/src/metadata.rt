@@ -45,7 +45,7 @@ const HASHED_ANEW: [(usize, u8); 17] = [
     (4096, 0),
 ];
 
-// Whether a sector is answered so, of which this bit was changed.
+// Whether a sector of which this bit was changed is refused with the number that its range says.
 fn is_answered(sector: &Sector, ranges: &[(usize, u8)], bit: usize) -> bool {
     for (end, number) in ranges {
         if bit < *end {
@@ -72,7 +72,7 @@ fn flipped(byte: usize, place: u32) -> Sector {
     sector
 }
 
-// A change of the MD5 itself, or of the byte after it, stays where it is.
+// If a bit of the MD5 itself or of the byte after it is changed, no MD5 is made anew.
 #[test]
 fn each_bit_is_refused_by_its_table(rt: HostRuntime) {
     for bit in 0..4096usize {

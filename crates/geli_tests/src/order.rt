@@ -25,7 +25,7 @@ fn add(count: &Cell<u64>, more: u64) {
 // A reply to `list` over one idle drawer.
 const REPLY: &str = "a.img idle\nok\n";
 
-// A source that gives a line a call, and looks whether the replies to those before were printed.
+// A source that gives one line at each call, and looks whether the replies to those before were printed.
 #[derive(Drop)]
 struct WatchedSource {
     source: MemSource,
@@ -93,7 +93,7 @@ fn status_of(
     Ok(run(alloc, &said, &mut shelf, &mut outside).number())
 }
 
-// Runs a script whose lines are given one a call, where these calls fail.
+// Runs a script whose lines are given one at each call, while these calls fail.
 fn asked(
     alloc: Global,
     input: &str,
@@ -103,8 +103,8 @@ fn asked(
     asked_in_pieces(alloc, input, &[5; 8], fails_in, fails_out)
 }
 
-// Runs a script that is given in pieces of these sizes, where these calls fail: its status, how often source and sink
-// were called, and whether a reply was late.
+// Runs a script that is given in pieces of these sizes, while these calls fail. Returned are its status, how often
+// source and sink were called, and whether a reply was late.
 fn asked_in_pieces(
     alloc: Global,
     input: &str,

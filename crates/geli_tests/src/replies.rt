@@ -11,14 +11,14 @@ use reply_text::{Reply, Row, RowList, write_reply};
 use std::alloc::Global;
 use std::test::Fail;
 
-// Whether the refusal is printed so, where the sink takes a few bytes at a time.
+// Whether the refusal is printed so, if the sink takes a few bytes at a time.
 fn prints(alloc: Global, refusal: Refusal, wanted: &str) -> Result<bool, Fail> {
     let mut sink = MemSink::new(alloc, &[1, 2, 0, 3, 5, 1, 1], &[], 64)?;
     let printed = write_reply(&Reply::Refused(refusal), &[], &mut sink).is_ok();
     Ok(printed && sink.bytes() == wanted.as_bytes())
 }
 
-// No case is without memory, and none has a key of another master key while a drawer is suspended.
+// No case lacks memory, and none has a key of another master key while a drawer is suspended.
 #[test]
 fn refusals_that_no_case_prints(rt: HostRuntime) -> Result<(), Fail> {
     let alloc = rt.alloc();
@@ -27,8 +27,8 @@ fn refusals_that_no_case_prints(rt: HostRuntime) -> Result<(), Fail> {
     Ok(())
 }
 
-// Whether a sink that takes all it is given is called so often for the reply: the last of the calls is the first that
-// can't fail.
+// Whether a sink that takes all it is given is called so often for the reply: if the last of these calls fails, so does
+// the reply, but not if the one after it would.
 fn takes_calls(alloc: Global, reply: &Reply, payload: &[u8], calls: u64) -> Result<bool, Fail>
     requires { FitsPayload (length payload.now) reply.now }
 {

@@ -8,7 +8,7 @@ use std::fmt::Write;
 use std::test::Fail;
 use table::IMAGES;
 
-// How often the letter stands that a sign of the table means, if it means many.
+// How often the letter is repeated that a sign of the table stands for; 0 if the sign stands for itself.
 fn many(sign: char) -> usize {
     match sign {
         '{' => 262_140,

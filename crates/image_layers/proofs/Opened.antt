@@ -1,4 +1,4 @@
--- The disk of an image, from the disks of its files; and what was asked where memory gave out.
+-- The disk of an image, from the disks of its files; and what was asked if there was no memory.
 use Rattle.std.proofs.Common.{◌∙◌, ◌≡◌, ◌⊎◌, inl, inr, refl, subst, sym, ap, ℕ, suc, List, [], ◌∷◌, ◌++◌, length, Bool, Option, Result}
 use Rattle.std.proofs.Common.{Ok, Err, OnErr, le_refl, take_all}
 use Rattle.block_traits.specs.declared.disk.Disk.{Ghosts}
@@ -25,7 +25,7 @@ module _ {O F : Type 0} {g : Ghosts (FileDisk F)} (o : opener.Ghosts O F) (f : i
   abbrev Image : List ℕ → ImageDisk F g → Opening O → Opening O → Type 0
   Image = OpensImageDisk o f changes
 
-  -- two disks as one, or none
+  -- two disks as one disk, or a disk of no file
   pub joined : (name left right : List ℕ) (first second : FileDisk F) (image : ImageDisk F g) (old new : Opening O) → IsJoinOf name left right → JoinsOrIsNone first second image
       → OpensBoth o f changes left right first second old new → Image name image old new
   joined name left right first second (Join both) old new is joins two =
@@ -44,14 +44,14 @@ module _ {O F : Type 0} {g : Ghosts (FileDisk F)} (o : opener.Ghosts O F) (f : i
   asks_image name (Plain disk) old new (inl h) = record { files = name ∷ []; own = inl (h.0, refl); asked = (new.opener, h.1.asked, refl) }
   asks_image name (Plain disk) old new (inr h) = asks_two o.asked changes name h.joined.left h.joined.right old.opener h.joined.opens.between.opener new.opener h.joined.join h.joined.opens.one.asked h.joined.opens.other.asked
 
-  -- all of its files are the first of them
+  -- all files of an image are the first of them
   pub image_part : (name : List ℕ) (image : ImageDisk F g) (old new : Opening O) → Image name image old new → AsksPart o.asked changes name old.opener new.opener
   image_part name image old new h =
       let asks = asks_image name image old new h in
       let P : List (List ℕ) → Type 0 = λ files. AsksFiles o.asked changes files old.opener new.opener in
       record { files = asks.files; own = asks.own; count = length asks.files; asked = subst P (sym (take_all (length asks.files) asks.files (le_refl (length asks.files)))) asks.asked }
 
-  -- these images were opened, and of the next a part was asked
+  -- these images were opened, and of the next a part was asked for
   pub first_asked : (done : List (List ℕ)) (name : List ℕ) (rest : List (List ℕ)) (disks : List (ImageDisk F g)) (old middle : Opening O) (new : O) → OpensImages o f changes done disks old middle
       → AsksPart o.asked changes name middle.opener new → AsksFirst o.asked changes ((done ++ name ∷ []) ++ rest) old.opener new
   first_asked [] name rest [] old middle new is part =
@@ -111,7 +111,7 @@ pub join_asked : {O : Type 0} (log_of : O → Option (List Asked)) (changes : Bo
 join_asked log_of changes name left right old new is (inl asks) = record { files = left ∷ right ∷ []; own = is; count = 1; asked = asks }
 join_asked log_of changes name left right old new is (inr asks) = record { files = left ∷ right ∷ []; own = is; count = 2; asked = asks }
 
--- whatever the answer is
+-- this holds whatever the result is
 pub any_refusal : {X E : Type 0} (result : Result X E) (P : Type 0) → P → OnErr result P
 any_refusal (Ok x) P h = tt
 any_refusal (Err e) P h = h

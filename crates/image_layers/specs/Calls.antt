@@ -32,7 +32,7 @@ module _ {F : Type 0} (f : file.Ghosts F) where
     pub asks : AsksFile f.calls (ReadAt (512 * n) count) old.file new.file
     pub unsynced : new.unsynced ≡ old.unsynced
 
-  -- bytes are written from sector n on by one write of the file, where it reaches so far
+  -- bytes are written from sector n on by one write of the file, if it reaches so far
   pub record WritesInFile (n : ℕ) (bytes : List ℕ) (old new : FileDisk F) (result : Result (Unit {0}) DiskFailed) : Type 0 where
     pub placed : WritesFile f (512 * n) bytes (is_ok result) old.file new.file
     pub faults : CountsFault result old.faults new.faults
@@ -50,7 +50,7 @@ module _ {F : Type 0} (f : file.Ghosts F) where
   -- ---- each kind
 
   module _ {g : Ghosts (FileDisk F)} where
-    -- sector n is read: in the file, or it waits or is read below, or in the first or the second
+    -- sector n is read: in the file; or it waits, or is read below; or in the first or the second
     abbrev pub ImageReads : ℕ → List ℕ → ImageDisk F g → ImageDisk F g → Result (Unit {0}) DiskFailed → Type 0
     ImageReads n bytes (Plain old) (Plain new) result = ReadsInFile n bytes old new result
     ImageReads n bytes (Behind old) (Behind new) result =
@@ -91,7 +91,8 @@ module _ {F : Type 0} (f : file.Ghosts F) where
         BothDo g.state g.state (write_events n bytes) old.first new.first old.second new.second result
     ImageWritesAll n bytes old new result = ⊥
 
-    -- what was written is kept: the file is synced; or what waits is written, and then it is synced; or both are
+    -- what was written is kept: the file is synced; or what waits is written, and then the file is synced; or both
+    -- files are
     abbrev pub ImageFlushes : ImageDisk F g → ImageDisk F g → Result (Unit {0}) DiskFailed → Type 0
     ImageFlushes (Plain old) (Plain new) result = SyncsFile old new result
     ImageFlushes (Behind old) (Behind new) result = FlushAnswers (behind_of g.state old) (behind_of g.state new) result

@@ -38,13 +38,13 @@ AsksFor name (first ∷ second ∷ third ∷ others) = ⊥
 
 -- ---- disks
 
--- the file of a disk, as far as its name led to one
+-- the file of a disk, if its name led to one
 abbrev pub file_led_to : Option FileId → List FileId
 file_led_to None = []
 file_led_to (Some id) = id ∷ []
 
 module _ {F : Type 0} {g : Ghosts (FileDisk F)} where
-  -- what the disk of an image tells of itself
+  -- what the disk of an image reports of itself
   abbrev pub image_disk_state : ImageDisk F g → DiskState
   image_disk_state (Plain disk) = g.state disk
   image_disk_state (Behind behind) = write_behind.behind_disk_of g.state behind
@@ -56,13 +56,13 @@ module _ {F : Type 0} {g : Ghosts (FileDisk F)} where
   WaitsFor disk (Plain other) = ⊥
   WaitsFor disk (Join both) = ⊥
 
-  -- both as one, or where they are too large for that, a disk of no file
+  -- both disks as one, or, if they are too large for that, a disk of no file
   abbrev pub JoinsOrIsNone : FileDisk F → FileDisk F → ImageDisk F g → Type 0
   JoinsOrIsNone first second (Join both) = (both.first ≡ first) × (both.second ≡ second)
   JoinsOrIsNone first second (Plain disk) = (2 ^ 44 ≤ (g.state first).size + (g.state second).size) × IsUnopened None disk
   JoinsOrIsNone first second (Behind behind) = ⊥
 
-  -- the disk of a file alone tells all that its file tells
+  -- the disk of a file alone reports all that its file reports
   abbrev pub TellsImage : (F → Option Told) → ImageDisk F g → Type 0
   TellsImage told (Plain disk) = TellsFile told disk
   TellsImage told (Behind behind) = Unit {0}
@@ -113,7 +113,7 @@ module _ {O F : Type 0} (o : opener.Ghosts O F) (f : image_file.Ghosts F) (chang
     pub join : IsJoinOf name left right
     pub opens : OpensBoth left right first second old new
 
-  -- two of them that are too large for one disk, and a disk of no file in their place
+  -- two files that are too large for one disk, and a disk of no file in their place
   pub record OpensTooMuch (size : FileDisk F → ℕ) (name : List ℕ) (disk : FileDisk F) (old new : Opening O) : Type 0 where
     pub first : FileDisk F
     pub second : FileDisk F
@@ -140,7 +140,7 @@ module _ {O F : Type 0} (o : opener.Ghosts O F) (f : image_file.Ghosts F) (chang
     OpensImages (name ∷ names) (disk ∷ disks) old new = (next : Opening O) × OpensImageDisk name disk old next × OpensImages names disks next new
     OpensImages names disks old new = ⊥
 
--- ---- what is asked where memory gives out
+-- ---- what is asked if there is no memory
 
 module _ {O : Type 0} (log_of : O → Option (List Asked)) (changes : Bool) where
   -- the disks of the files of these names are asked for, one after another, and nothing else
@@ -155,7 +155,7 @@ module _ {O : Type 0} (log_of : O → Option (List Asked)) (changes : Bool) wher
     pub count : ℕ
     pub asked : AsksFiles (take count files) old new
 
-  -- all of them are, and then this is
+  -- all files of an image are asked for, and then `Then` holds
   pub record AsksAll (name : List ℕ) (Then : O → O → Type 0) (old new : O) : Type 0 where
     pub files : List (List ℕ)
     pub own : AsksFor name files
@@ -163,7 +163,7 @@ module _ {O : Type 0} (log_of : O → Option (List Asked)) (changes : Bool) wher
     pub asked : AsksFiles files old next
     pub behind : Then next new
 
-  -- of the files of these images the first are asked for, one after another, and nothing else
+  -- the first of the files of these images are asked for, one after another, and nothing else
   abbrev pub AsksFirst : List (List ℕ) → O → O → Type 0
   AsksFirst [] old new = log_of new ≡ log_of old
   AsksFirst (name ∷ names) old new = (log_of new ≡ log_of old) ⊎ (AsksPart name old new ⊎ AsksAll name (λ next new. AsksFirst names next new) old new)

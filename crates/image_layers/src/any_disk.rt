@@ -9,8 +9,8 @@ use crate::ImageDisk;
 use block_traits::{Disk, DiskFailed, Event, Sector};
 use file_edge::ImageFile;
 
-/// The disk of an image is the disk in it: besides what a disk does, each call does what it says of that one, a look
-/// too.
+/// The disk of an image is the disk in it: besides what a disk does, each call, also a look, does what that disk says
+/// of it.
 impl<F: ImageFile + Drop> Disk for ImageDisk<F> {
     ghost state = { λ d. image_disk_state d };
 
@@ -48,7 +48,7 @@ impl<F: ImageFile + Drop> Disk for ImageDisk<F> {
     {
         match self {
             ImageDisk::Plain(disk) => disk.peek(first, into),
-            // A layer tells no content, and lets nothing be looked at.
+            // A layer reports no content, and lets nothing be looked at.
             ImageDisk::Behind(_) | ImageDisk::Join(_) => false,
         }
     }

@@ -25,10 +25,9 @@ where
     Join(Concat<FileDisk<F>, FileDisk<F>>),
 }
 
-/// The disk of the image of a name, on the files that the name names, which are put among the others. They are opened
-/// in their order, to be changed or not, beside the files that are there, and nothing else is asked of the opener;
-/// names have what they had. Two files that are too large for one disk are a disk of two sectors whose every call
-/// fails.
+/// The disk of the image of a name. The files in that name are opened in their order, to be changed or not, beside the
+/// files that are there, and added to those. Nothing else is asked of the opener; names have what they had. Two files
+/// that are too large for one disk are a disk of two sectors whose every call fails.
 pub fn open_image<O: Opener>(
     alloc: Global,
     opener: &mut O,

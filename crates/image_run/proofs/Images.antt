@@ -35,13 +35,13 @@ over_new words names disks old status left new begun named same runs =
     let Q : OutsideState → Type 0 = λ o. RunsOver words (image_names words) disks o status left new in
     subst Q same (subst P named runs)
 
--- the cabinet and the random bytes that were opened are those that were told
+-- the cabinet and the random bytes that were opened are those that were reported
 pub same_outside : (cabinet cabinet' : CabinetState) (entropy entropy' : EntropyState) (source : SourceState) (sink : SinkState) → cabinet ≡ cabinet' → entropy ≡ entropy'
     → outside_of cabinet entropy source sink ≡ outside_of cabinet' entropy' source sink
 same_outside cabinet cabinet' entropy entropy' source sink fresh first = λ i. outside_of (fresh i) (first i) source sink
 
 module _ {O F : Type 0} {g : Ghosts (FileDisk F)} (o : opener.Ghosts O F) (f : image_file.Ghosts F) where
-  -- names have what they had before the images were opened, and the random bytes are those that were told then
+  -- names have what they had before the images were opened, and the random bytes are those that were reported then
   pub opened_told : (changes : Bool) (names : List (List ℕ)) (disks : List (ImageDisk F g)) (files : List FileId) (random : RandomFile F) (old new : O)
       → OpensNamed o f changes names disks files random old new → (o.told new ≡ o.told old) × IsRandom (o.told old) (left_in f.left random.device)
   opened_told changes names disks files random old new opens =

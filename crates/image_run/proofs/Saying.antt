@@ -8,7 +8,7 @@ use Rattle.geli_core.specs.declared.words.Words.{Words}
 use Rattle.geli_core.specs.declared.words.Words.TheVariants.{Script, One, Usage}
 use Rattle.image_run.specs.Program.{changes_by, changes_images, changes_said}
 
--- whether the images are to be changed
+-- by the words and by what they say, it is the same whether the images are to be changed
 pub same_changes : (words : List (List ℕ)) (said : Words) → Says words said → changes_said said ≡ changes_images words
 same_changes words (Script names) is = ap (λ (asks : Option (List (List ℕ))). changes_by asks (command_in (line_of words))) (sym is)
 same_changes words (One line command) is =

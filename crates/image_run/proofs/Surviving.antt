@@ -23,7 +23,7 @@ use Rattle.image_layers.specs.declared.image_disks.ImageDisk.TheVariants.{Plain,
 use Rattle.image_run.specs.Surviving.{IfFileTells, SurviveEachLine, SurviveInFiles, SurvivesInFile}
 use Rattle.readings.specs.Steps.{Step, after}
 
--- what was told grew by the steps
+-- what was reported grew by the steps
 grown : (was now : Option Content) (steps : List Step) → now ≡ option_map (after steps) was → IfSome was (EnduresCrashes steps)
     → IfSome was (λ c. (now ≡ Some (after steps c)) × EnduresCrashes steps c)
 grown None now steps same endures = tt
@@ -88,7 +88,7 @@ module _ {F : Type 0} {g : Ghosts (FileDisk F)} (told : F → Option Told) where
     each_line sep cabinet entropy served start (l ∷ lines) hold =
         (λ drawer among. by_steps _ drawer (hold.0.drawers.survivors drawer among), each_line sep cabinet entropy (served ++ l ∷ []) l.next lines hold.1)
 
-    -- each drawer that was ever there
+    -- each drawer that was ever there survives in the file of its image
     pub survive_in_files : (words : List (List ℕ)) (old new : OutsideState) (status : Status) (left : List DrawerState) (run : RunsOver words names (map image_disk_state disks) old status left new)
         → SurviveInFiles told names disks run
     survive_in_files words old new status left run = record {

@@ -29,8 +29,8 @@ use Rattle.image_layers.specs.Images.{AsksFirst, OpensImages, TellsImage, openin
 use Rattle.image_layers.specs.declared.image_disks.ImageDisk.{ImageDisk}
 use Rattle.image_run.specs.Surviving.{SurviveInFiles}
 
--- all arguments but the first, which is the program's name; arguments that can't be read are no words, but want of
--- memory is
+-- all arguments but the first, which is the program's name; arguments that can't be read are no words, unless that is
+-- for want of memory
 abbrev pub HasWords : {X Z : Type 0} → Result (IntoIter X Z) Error → List X → Type 0
 HasWords (Ok args) words = words ≡ drop 1 (into_iter_items args)
 HasWords (Err error) words = (words ≡ []) × (error_kind error ≢ kinds.OutOfMemory)
@@ -40,7 +40,7 @@ abbrev pub reads_alone : Option Command → Bool
 reads_alone (Some command) = (traits_of command).only_reads
 reads_alone None = false
 
--- whether images are to be changed: those of a script are, and else that of the command, but where it only reads
+-- whether images are to be changed: those of a script are, and that of a command unless the command only reads
 abbrev pub changes_by : Option (List (List ℕ)) → Option Command → Bool
 changes_by (Some names) said = true
 changes_by None said = not (reads_alone said)
@@ -55,12 +55,12 @@ changes_said (Script names) = true
 changes_said (One line command) = not (reads_alone (Some command))
 changes_said Usage = true
 
--- where memory gave out before a run: nothing was asked but the first of the files of the images that the words name
+-- if there was no memory before a run: nothing was asked but the first of the files of the images that the words name
 abbrev pub AsksFirstFiles : {O : Type 0} → (O → Option (List Asked)) → List (List ℕ) → O → O → Type 0
 AsksFirstFiles log_of words old new = AsksFirst log_of (changes_images words) (image_names words) old new
 
--- a cabinet beside these images over an opener that tells this, and entropy of which this is left, before anything was
--- asked of them
+-- a cabinet beside these images over an opener that reports this, and entropy of which this is left, before anything
+-- was asked of them
 abbrev pub new_cabinet : List FileId → Option NamedFiles → CabinetState
 new_cabinet images told = record { files = told_files images told; faults = 0; misses = 0; loads = 0; stores = 0 }
 
@@ -69,7 +69,8 @@ new_entropy left = record { left = left; faults = 0; calls = 0 }
 
 module _ {O F : Type 0} {g : Ghosts (FileDisk F)} (o : opener.Ghosts O F) (f : image_file.Ghosts F) where
   -- what a run begins with: the images of these names are opened one after another, to be changed or not, and then the
-  -- random bytes, which are those that are told; nothing else is asked of what opens them, and names have what they had
+  -- random bytes, which are those that are reported; nothing else is asked of what opens them, and names have what they
+  -- had
   pub record OpensNamed (changes : Bool) (names : List (List ℕ)) (disks : List (ImageDisk F g)) (files : List FileId) (random : RandomFile F) (old new : O) : Type 0 where
     pub between : O
     pub images : OpensImages o f changes names disks (opening old []) (opening between files)
@@ -91,13 +92,13 @@ module _ {O F : Type 0} (g : Ghosts (FileDisk F)) (o : opener.Ghosts O F) (f : i
     pub random : RandomFile F
     pub opens : OpensAll o f words disks files random old new
 
-  -- The words were run over the images that they name. What opens files opened just these and the random bytes. Of
-  -- the run of the words over drawers with those names, in which just the disks of these images lay, to the drawers
-  -- that are left, holds all that is said of runs. The disk of a file alone tells what its file tells. The cabinet has
-  -- the files that were told of the names, but for these images, the random bytes are those that were told, and of
+  -- The words were run over the images that they name. What opens files opened just these and the random bytes. All
+  -- that is said of runs holds of the run of the words over drawers with those names, in which just the disks of these
+  -- images lay, to the drawers that are left. The disk of a file alone reports what its file reports. The cabinet has
+  -- the files that were reported of the names, but for these images. The random bytes are those that were reported. Of
   -- neither anything was asked before; after the run they are those that are left. `survives`: whatever a power failure
-  -- leaves in the file of an image alone that tells its sectors, at any moment of the run, reads as promised, from the
-  -- content that the file had when it was opened.
+  -- leaves in the file of an image alone that reports its sectors, at any moment of the run, reads as promised, from
+  -- the content that the file had when it was opened.
   pub record RunsOverFiles (words : List (List ℕ)) (opener : O) (source : SourceState) (sink : SinkState) (status : Status) (left : List DrawerState) (outside : OutsideState) : Type 0 where
     pub disks : List (ImageDisk F g)
     pub files : List FileId

@@ -17,14 +17,14 @@ use Rattle.image_layers.specs.declared.image_disks.ImageDisk.TheVariants.{Plain,
 use Rattle.readings.specs.Steps.{Step, after}
 
 module _ {F : Type 0} {g : Ghosts (FileDisk F)} (told : F → Option Told) where
-  -- this holds of what the file of a disk tells, where it is the disk of a file alone, and the file tells its sectors
+  -- this holds of what the file of a disk reports, if it is the disk of a file alone, and the file reports its sectors
   abbrev pub IfFileTells : ImageDisk F g → (Content → Type 0) → Type 0
   IfFileTells (Plain disk) P = IfSome (contents (told_in told disk.file)) P
   IfFileTells (Behind behind) P = Unit {0}
   IfFileTells (Join both) P = Unit {0}
 
-  -- The drawer is that of one of these images, by its name, and did these steps. Where the disk of the image was opened
-  -- on a file alone that told its content then, it has now the events of the steps after that content and no other. If
+  -- The drawer is that of one of these images, by its name, and did these steps. If the disk of the image was opened on
+  -- a file alone that reported its content then, it now has the events of the steps after that content and no other. If
   -- power fails at any moment of them, before or within any write of a device sector, each image that is left reads
   -- unit by unit as promised (docs/THEOREM.md).
   pub record SurvivesInFile (names : List (List ℕ)) (disks : List (ImageDisk F g)) (drawer : DrawerState) (steps : List Step) : Type 0 where
@@ -35,7 +35,7 @@ module _ {F : Type 0} {g : Ghosts (FileDisk F)} (told : F → Option Told) where
     pub in_file : IfFileTells disk (λ c. (drawer.disk.content ≡ Some (after steps c)) × EnduresCrashes steps c)
 
   module _ (names : List (List ℕ)) (disks : List (ImageDisk F g)) where
-    -- each drawer that is there after a line does, by the steps that the laws of that line say
+    -- each drawer that is there after a line survives in its file, by the steps that the laws of that line say
     abbrev pub SurviveEachLine : (sep : Sep) (entry : World) (served : List ServedLine) (start : World) (lines : List ServedLine)
         → EachLine (LineHolds sep entry) served start lines → Type 0
     SurviveEachLine sep entry served start [] hold = Unit {0}
@@ -43,14 +43,15 @@ module _ {F : Type 0} {g : Ghosts (FileDisk F)} (told : F → Option Told) where
         ((drawer : DrawerState) (among : IsAmong l.next.drawers drawer) → SurvivesInFile names disks drawer (hold.0.drawers.survivors drawer among).play.steps)
         × SurviveEachLine sep entry (served ++ l ∷ []) l.next lines hold.1
 
-    -- each drawer that is there at entry, after any line, or at exit does, so also one that a later line takes out
+    -- each drawer that is there at entry, after any line, or at exit survives in its file, so also one that a later
+    -- line takes out
     pub record SurviveInFiles {words : List (List ℕ)} {old new : OutsideState} {status : Status} {left : List DrawerState} (run : RunsOver words names (map image_disk_state disks) old status left new) : Type 0 where
       pub entry : (drawer : DrawerState) (among : IsAmong (idle_drawers names (map image_disk_state disks)) drawer) → SurvivesInFile names disks drawer (run.lawful.entry.survivors drawer among).play.steps
       pub lines : SurviveEachLine run.lawful.trace.sep (whole_with (idle_drawers names (map image_disk_state disks)) old).world [] (whole_with (idle_drawers names (map image_disk_state disks)) old).world run.lawful.trace.lines run.lawful.lines
       pub exit : (drawer : DrawerState) (among : IsAmong left drawer) → SurvivesInFile names disks drawer (run.lawful.exit drawer among).play.steps
 
 -- every run leaves the files so that they survive crashes (`SurviveInFiles`), over disks of which each that is of a
--- file alone tells what that file tells
+-- file alone reports what that file reports
 abbrev pub EachRunSurvives : {F : Type 0} (g : Ghosts (FileDisk F)) (told : F → Option Told) → Type 0
 EachRunSurvives {F} g told =
     (words names : List (List ℕ)) (disks : List (ImageDisk F g)) (old new : OutsideState) (status : Status) (left : List DrawerState)

@@ -45,7 +45,7 @@ where
     Ok(Images { disks, files })
 }
 
-// Whether the images are to be changed: those of a script are, and else that of the command, but where it only reads.
+// Whether the images are to be changed: those of a script are, and that of a command unless the command only reads.
 fn changes(said: &Words<'_>) -> bool
     ensures { result ≡ changes_said said.now }
 {
@@ -109,7 +109,7 @@ where
 }
 
 /// Opens the images that the words name, by what they say, and then the random bytes; no call was made of what is
-/// handed out. Where memory gave out the opener comes back, and names have what they had.
+/// handed out. If there was no memory the opener comes back, and names have what they had.
 pub(crate) fn open_all<O: Opener + Drop>(
     alloc: Global,
     opener: O,

@@ -14,13 +14,12 @@ use geli_core::{AddFault, Drawers, Outside, Status, read_words, run_over};
 use image_layers::ImageDisk;
 use std::alloc::Global;
 
-/// Reads the words, runs what they ask for over the images that they name, and hands back the status, and the shelf
-/// with their disks, the files and the random bytes, as the run left them. Each image is opened, in order, to be
-/// changed but where the command only reads, and then the random bytes, and nothing else. Where the opener tells what
-/// its names have, the files and random bytes of the run are those. Or there was no memory for that: then neither was
-/// anything read nor printed, names have what they had, and the opener comes back. Words that aren't those of a script
-/// read nothing of the input. The status is by the words: `ReadFault` only where the input failed, `WriteFault` only
-/// where the output did.
+/// Reads the words, runs what they ask for over the images that they name, and returns the status and what the run
+/// left: the shelf with the disks, the files and the random bytes. Each image is opened, in order, to be changed unless
+/// the command only reads; then the random bytes are opened, and nothing else. If the opener reports what its names
+/// have, the files and random bytes of the run are those. If there was no memory for this, nothing was read or printed,
+/// names have what they had, and the opener comes back. Words that aren't those of a script read nothing of the input.
+/// The status is by the words: `ReadFault` only if the input failed, `WriteFault` only if the output did.
 pub fn run_files<O: Opener + Drop, S: Source, K: Sink>(
     alloc: Global,
     words: &[String],

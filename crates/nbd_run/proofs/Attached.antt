@@ -24,7 +24,7 @@ use Rattle.suspend.specs.Suspension.{Suspension}
 use Rattle.nbd_run.specs.Attaching.{AttachesProvider, IsRefusalOf}
 use Rattle.nbd_run.specs.Words.{attaches}
 
--- attached, and it says so; or idle, and it was refused
+-- the drawer is attached, and the reply says so; or it is idle, and the row was refused
 abbrev pub Leaves : answers.Answer → Holding → Type 0
 Leaves said holding =
     ((a : Attachment) × (said ≡ answers.Done) × (holding ≡ IsAttached a)) ⊎ ((refusal : Refusal) × (said ≡ answers.Refused refusal) × (holding ≡ Idle))
@@ -59,7 +59,7 @@ left_by line (commands.Attach prov false readonly slot words) d cabinet entropy 
 left_by line (commands.Attach prov true readonly slot words) d cabinet entropy said new verb h = absurd (cc verb)
 left_by line command d cabinet entropy said new verb h = absurd (cc verb)
 
--- ---- by what the drawer does then
+-- ---- by what the drawer does after the row
 
 pub says_done : (said : answers.Answer) (holding : Holding) (a : Attachment) → Leaves said holding → holding ≡ IsAttached a → said ≡ answers.Done
 says_done said holding a (inl h) is = h.1
@@ -86,7 +86,7 @@ is_refusal bytes (replies.Tag tag) refusal is = cc is
 is_refusal bytes (replies.Left left) refusal is = cc is
 is_refusal bytes (replies.Verified bad next) refusal is = cc is
 
--- ---- by what the drawer holds then
+-- ---- by what the drawer holds after the row
 
 module _ {D : Type 0} (state : D → DiskState) (line other : List ℕ) (command : Command) (d : DiskState) (cabinet : CabinetState) (entropy : EntropyState) (said : answers.Answer) (holds : Held D)
     (files : CabinetState) (random : EntropyState) (same : other ≡ line) (verb : attaches command ≡ true) (served : Serves other command (reach_of d Idle cabinet entropy) said (reach_in state holds files random)) where

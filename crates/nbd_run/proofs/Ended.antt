@@ -33,7 +33,7 @@ where_told None side source rest sink after status old new is told e = tt
 where_told (Some c) side source rest sink after status old new is told e =
     by_flush e.flushed side e.session.talks.talk.exchanges old e.session.last new c is told e.session.talks.served e.session.closed
 
--- what the file told when it was opened is what the disk told when it was attached
+-- what the file reported when it was opened is what the disk reported when it was attached
 pub endures : {F : Type 0} {g : Ghosts (FileDisk F)} (told : F → Option Told) (same : (d : FileDisk F) → (g.state d).content ≡ (file.file_disk_state told d).content)
     (disk : ImageDisk F g) (side : Side) (source rest : SourceState) (sink after : SinkState) (status : Status) (old new : DiskState) → IsKeying side.keying → TellsImage told disk → Logs [] (image_disk_state disk) old
     → (e : EndsWith side source rest sink after status old new) → IfFileTells told disk (EnduresSession side source rest sink after status old new e)

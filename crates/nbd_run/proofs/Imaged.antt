@@ -68,7 +68,7 @@ module _ {O F : Type 0} {g : Ghosts (FileDisk F)} (o : opener.Ghosts O F) (f : i
   asked : OpensAsked g o f words before
   asked = record { name = name; line = line; command = command; asks = asks; disk = disk; files = files; random = random; opened = opened; opens = opens; telling = tells; device = subst (λ (told : Option NamedFiles). IsRandom told (left_in f.left random.device)) stays opens.left }
 
-  -- a row from what was opened is one from what was told
+  -- a row from what was opened is one from what was reported
   from_told : (answer : answers.Answer) (new : Reach) → Serves line command (reach_of (image_disk_state disk) Idle cabinet entropy) answer new → Serves line command (begins g o f asked) answer new
   unfolding asked
   from_told answer new row =

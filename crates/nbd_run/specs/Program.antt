@@ -49,25 +49,25 @@ pub record Streams : Type 0 where
 abbrev pub streams : SourceState → SinkState → SinkState → Streams
 streams source sink log = record { source = source; sink = sink; log = log }
 
--- the log took a text, or its first bytes where it failed; the client's streams are as they were
+-- the log took a text, or its first bytes if it failed; the client's streams are as they were
 pub record IsLogged (text : List ℕ) (old new : Streams) : Type 0 where
   pub log : TookAll text old.log new.log ⊎ TookPart text old.log new.log
   pub source : new.source ≡ old.source
   pub sink : new.sink ≡ old.sink
 
--- the client was given a text, or its first bytes where the sink failed, and the status is by that
+-- the client was given a text, or its first bytes if the sink failed, and the status is by that
 abbrev pub PrintsText : List ℕ → SinkState → Status → SinkState → Type 0
 PrintsText text old Done new = TookAll text old new
 PrintsText text old WriteFault new = TookPart text old new
 PrintsText text old status new = ⊥
 
--- and nothing else
+-- a text was printed for the client, and nothing else was done with the streams
 pub record IsPrinted (text : List ℕ) (old : Streams) (status : Status) (new : Streams) : Type 0 where
   pub prints : PrintsText text old.sink status new.sink
   pub source : new.source ≡ old.source
   pub log : new.log ≡ old.log
 
--- ---- where nothing was opened
+-- ---- if nothing was opened
 
 module _ {O : Type 0} (log_of : O → Option (List Asked)) (words : List (List ℕ)) where
   -- the words aren't those of `geli attach`, and the usage line is printed to the log
@@ -77,7 +77,7 @@ module _ {O : Type 0} (log_of : O → Option (List Asked)) (words : List (List �
     pub logged : IsLogged usage_line old new
     pub opener_is : left ≡ opener
 
-  -- memory gave out: nothing was asked of the opener, or the first of the files of the image that the words name
+  -- there was no memory: nothing was asked of the opener, or the first of the files of the image that the words name
   pub record AsksFirstOfImage (opener left : O) : Type 0 where
     pub name : List ℕ
     pub line : List ℕ
@@ -90,7 +90,7 @@ module _ {O : Type 0} (log_of : O → Option (List Asked)) (words : List (List �
     pub streams_are : new ≡ old
     pub asked : (left ≡ opener) ⊎ AsksFirstOfImage opener left
 
-  -- by what the words ask for
+  -- what becomes of a run that opens nothing, by what the words ask for
   abbrev pub ServesNothing : Wish → O → Streams → Status → O → Streams → Type 0
   ServesNothing Help opener old status left new = IsPrinted help_text old status new × (left ≡ opener)
   ServesNothing Version opener old status left new = IsPrinted version_text old status new × (left ≡ opener)
@@ -106,7 +106,7 @@ pub record EndsWith (side : Side) (source rest : SourceState) (sink after : Sink
   pub session : HasSession side end denied source rest sink after flushed old new
   pub status_is : status ≡ session_status end denied (is_ok flushed)
 
--- what the exchanges did endures crashes; where the last flush was made, all that was answered lasts
+-- what the exchanges did endures crashes; if the last flush was made, all that was acknowledged lasts
 abbrev pub EnduresBy : Result (Unit {0}) DiskFailed → Keying → List Exchange → Content → DiskState → DiskState → Type 0
 EnduresBy (Ok done) k xs c last new = SurvivesClosed k xs c last new
 EnduresBy (Err failed) k xs c last new = Survives k xs c last
@@ -120,7 +120,7 @@ EnduresSession side source rest sink after status old new e c =
 abbrev pub side_in : Attachment → Side
 side_in a = record { keying = a.keying; readonly = a.readonly }
 
--- what is left of a run: what the disk tells of itself, the cabinet, and the entropy
+-- what is left of a run: what the disk reports of itself, the cabinet, and the entropy
 pub record Remains : Type 0 where
   pub disk : DiskState
   pub cabinet : CabinetState
@@ -153,8 +153,8 @@ module _ (line : List ℕ) (command : Command) (start : Reach) where
 -- ---- the run
 
 module _ {O F : Type 0} (g : Ghosts (FileDisk F)) (o : opener.Ghosts O F) (f : image_file.Ghosts F) where
-  -- The words are those of `geli attach` for one image. That was opened, to be changed unless it attaches
-  -- read-only, and then the random bytes; nothing else was asked. The disk of a file alone tells what its file tells.
+  -- The words are those of `geli attach` for one image. That was opened, to be changed unless it attaches read-only,
+  -- and then the random bytes; nothing else was asked. The disk of a file alone reports what its file reports.
   pub record OpensAsked (words : List (List ℕ)) (opener : O) : Type 0 where
     pub name : List ℕ
     pub line : List ℕ
@@ -168,13 +168,13 @@ module _ {O F : Type 0} (g : Ghosts (FileDisk F)) (o : opener.Ghosts O F) (f : i
     pub telling : TellsImage f.told disk
     pub device : IsRandom (o.told opener) (left_in f.left random.device)
 
-  -- what attaching begins with: the disk, idle, the files that were told beside it, and the random bytes that were
-  -- told, before anything was asked of them
+  -- what attaching begins with: the disk, idle, the files that were reported beside it, and the random bytes that were
+  -- reported, before anything was asked of them
   abbrev pub begins : {words : List (List ℕ)} {opener : O} → OpensAsked words opener → Reach
   begins {words} {opener} h = reach_of (image_disk_state h.disk) Idle (new_cabinet h.files (o.told opener)) (new_entropy (left_in f.left h.random.device))
 
-  -- A client was served. Where the disk was opened on a file alone that told its content then, that grew by just the
-  -- events of what the client asked for, and endures crashes.
+  -- A client was served. If the disk was opened on a file alone that reported its content then, that content grew by
+  -- just the events of what the client asked for, and endures crashes.
   pub record ServesInFile {words : List (List ℕ)} {opener : O} (h : OpensAsked words opener) (old : Streams) (status : Status) (left : Remains) (new : Streams) : Type 0 where
     pub served : ServesAttached h.line h.command (begins h) old status left new
     pub endures : IfFileTells f.told h.disk (EnduresSession (side_in served.attachment) old.source new.source old.sink new.sink status served.middle left.disk served.ends)

@@ -20,7 +20,7 @@ abbrev pub closed_status : Bool → Bool → Status
 closed_status false true = Done
 closed_status denied flushed = SomeRefused
 
--- why a session ended comes first
+-- the status of a session: why it ended comes first
 abbrev pub session_status : End → Bool → Bool → Status
 session_status ends.ReadFault denied flushed = ReadFault
 session_status ends.WriteFault denied flushed = WriteFault

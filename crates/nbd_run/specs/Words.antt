@@ -41,7 +41,7 @@ abbrev pub attaches : Command → Bool
 attaches (commands.Attach prov only_check readonly slot old) = not only_check
 attaches command = false
 
--- one that attaches the provider read-only
+-- a command that attaches the provider read-only
 abbrev pub attaches_readonly : Command → Bool
 attaches_readonly (commands.Attach prov only_check readonly slot old) = readonly
 attaches_readonly command = false
@@ -53,6 +53,6 @@ pub record AsksToAttach (words : List (List ℕ)) (name line : List ℕ) (comman
   pub verb : attaches command ≡ true
   pub named : name_at line (provider_of command) ≡ name ∷ []
 
--- they are no such command
+-- after `attach` the words aren't a command that attaches
 abbrev pub AsksForNothing : List (List ℕ) → Type 0
 AsksForNothing words = (command : Command) → command_in (line_of (attach_words words)) ≡ Some command → attaches command ≡ false

@@ -24,7 +24,7 @@ where
 }
 
 // Opens the image of a name, to be changed or not, and then the random bytes; no call was made of what is handed out.
-// Where memory gave out the opener comes back, and names have what they had.
+// If there was no memory the opener comes back, and names have what they had.
 fn open_named<O: Opener + Drop>(
     alloc: Global,
     opener: O,

@@ -18,7 +18,7 @@ use file_edge::{FileCabinet, FileDisk, ImageFile, Opener, RandomFile};
 use image_layers::ImageDisk;
 use std::alloc::Global;
 
-/// How a run ended in which an image was opened, and what was opened, as the run left it.
+/// How a run ended that opened an image, and what was opened, as the run left it.
 #[derive(Drop)]
 pub struct Ran<O: Opener + Drop>
 where
@@ -45,9 +45,9 @@ pub fn status_of<O: Opener + Drop>(ran: Result<Ran<O>, (Status, O)>) -> Status
 }
 
 /// Attaches the provider that the words name, as `geli attach` does, and serves it to one client; or prints to the log
-/// why not. Just the files of the image are opened, and then the random bytes. Where nothing was opened the opener
-/// comes back with the status: a text was asked for, which the client is given, or the words ask for nothing, or there
-/// was no memory. Then nothing was taken of the client, and names have what they had.
+/// why not. Just the files of the image are opened, and then the random bytes. If nothing was opened, the opener comes
+/// back with the status: a text was asked for, which the client is given, or the words ask for nothing, or there was no
+/// memory. Then no byte of the client was taken, and names have what they had.
 pub fn serve_words<O: Opener + Drop, S: Source, K: Sink, L: Sink>(
     alloc: Global,
     words: Vec<String>,

@@ -1,4 +1,4 @@
-//! An attached provider is served, or its refusal told.
+//! An attached provider is served, or its refusal logged.
 ghost use Rattle.std.specs.Prelude.{◌≡◌, ◌⊎◌, IfErr, IfOk, OnErr, OnOk, length};
 ghost use Rattle.block_traits.specs.Streams.{TookAll, TookPart};
 ghost use Rattle.eli_base.specs.Requests.{request_limit};
@@ -15,7 +15,7 @@ use provider::Provider;
 use reply_text::{Reply, write_reply, write_text};
 use std::alloc::{AllocError, Global};
 
-// Serves an attached provider to one client. The disk comes back.
+// Serves an attached provider to one client, and returns the disk.
 fn serve_provider<D: Disk, S: Source, K: Sink>(
     provider: Provider<D>,
     room: &mut [u8],
@@ -52,7 +52,7 @@ pub(crate) fn take_rooms(alloc: Global) -> Result<Rooms, AllocError>
     Ok(Rooms { buffer, room, edge })
 }
 
-/// Serves a provider that was attached, or prints to the log why it wasn't. The disk comes back.
+/// Serves a provider that was attached, or prints to the log why it wasn't. It returns the disk.
 pub(crate) fn serve_or_log<D: Disk, S: Source, K: Sink, L: Sink>(
     attached: Result<Provider<D>, (D, Refusal)>,
     rooms: &mut Rooms,
@@ -83,7 +83,7 @@ pub(crate) fn serve_or_log<D: Disk, S: Source, K: Sink, L: Sink>(
     }
 }
 
-// Prints a refusal to the log, as far as that takes it.
+// Prints a refusal to the log, as far as the log takes it.
 fn log_refusal<L: Sink>(refusal: Refusal, log: &mut L)
     ensures { TookAll (refusal_text refusal) (L.state log.old) (L.state log.new)
         ⊎ TookPart (refusal_text refusal) (L.state log.old) (L.state log.new) }
@@ -94,7 +94,7 @@ fn log_refusal<L: Sink>(refusal: Refusal, log: &mut L)
     }
 }
 
-/// Prints a text to the log, as far as that takes it.
+/// Prints a text to the log, as far as the log takes it.
 pub(crate) fn log_text<L: Sink>(text: &[u8], log: &mut L)
     ensures { TookAll text.now (L.state log.old) (L.state log.new) ⊎ TookPart text.now (L.state log.old) (L.state log.new) }
 {

@@ -6,7 +6,7 @@ ghost use Rattle.nbd_run.specs.Status.{run_number, session_status};
 use nbd_session::End;
 use std::process::ExitCode;
 
-/// How a run ended, with which number the program exits.
+/// How a run ended. Each status has a number, with which the program exits.
 #[derive(Clone, Copy, Debug, PartialEq, Eq)]
 pub enum Status {
     /// The client ended, each of its writes and flushes was done, and so was the last flush. Or a text was printed.
@@ -21,7 +21,7 @@ pub enum Status {
     WriteFault,
     /// There was no memory, and nothing was served.
     NoMemory,
-    /// The client said what no client says.
+    /// The client sent what no client sends.
     Malformed,
 }
 
@@ -49,8 +49,8 @@ pub fn exit_code(status: Status) -> ExitCode
     ExitCode::from(status.number())
 }
 
-/// The status of a session, by why it ended, whether something was answered with an error that was to change or to
-/// flush the disk, and whether the last flush was made.
+/// The status of a session, by why it ended, whether a request to change or to flush the disk was answered with an
+/// error, and whether the last flush was made.
 pub(crate) fn session_status(end: End, denied: bool, flushed: bool) -> Status
     ensures { result ≡ session_status end denied flushed }
 {

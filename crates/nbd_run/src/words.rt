@@ -10,7 +10,7 @@ use command_words::{Command, provider_name};
 use geli_core::{Words, read_words};
 use std::alloc::Global;
 
-/// What is printed where the words ask for nothing else.
+/// What is printed if the words ask for nothing else.
 pub(crate) const USAGE: &[u8] =
     b"usage: geli-nbd [-pr] [-n keyno] [-j passfile] [-k keyfile] image\n";
 
@@ -51,7 +51,7 @@ pub(crate) struct Asked {
     pub(crate) command: Command,
 }
 
-/// Reads words as those of `geli attach`. `None`: they aren't, or only try a key.
+/// Reads words as those of `geli attach`. `None`: they aren't such words, or only try a key.
 pub(crate) fn read_attach(alloc: Global, words: Vec<String>) -> Result<Option<Asked>, NoMemory>
     ensures asks { IfOk result (λ read. MatchOption read (AsksForNothing (map string_bytes words.items))
         (λ asked. AsksToAttach (map string_bytes words.items) (string_bytes asked.name) asked.line.items asked.command)) }
@@ -107,7 +107,7 @@ fn attaches(command: &Command) -> bool
     }
 }
 
-/// Whether it attaches the provider read-only.
+/// Whether a command attaches the provider read-only.
 pub(crate) fn is_read_only(command: &Command) -> bool
     ensures { result ≡ attaches_readonly command.now }
 {

@@ -61,14 +61,14 @@ after-then c steps more =
 
 -- ---- one exchange
 
--- after some steps, of which each has a lower number, an exchange that was answered so did these
+-- after some steps, of which each has a lower number, an exchange with this reply did these
 record Did (error : ReplyError) (kind : RequestKind) (n : ℕ) (k : Keying) (x : Exchange) (steps : List Step) (c : Content) : Type 0 where
   pub deed : Deed
   pub by : DidBy error kind n k (after steps c) x deed
   pub content : x.next.content ≡ Some (after (steps ++ take deed.count (steps_of_kind kind n k x deed.whole)) c)
   pub below : AreStepsBelow (n + 1) (steps ++ take deed.count (steps_of_kind kind n k x deed.whole))
 
--- the first of the steps of its kind
+-- an exchange did the first of the steps of its kind
 did : (error : ReplyError) (kind : RequestKind) (n : ℕ) (k : Keying) (x : Exchange) (steps : List Step) (c : Content) (d : DiskState) (whole : List ℕ) (count : ℕ)
     → DidBy error kind n k (after steps c) x (record { whole = whole; count = count }) → d.content ≡ Some (after steps c) → AreStepsBelow (n + 1) (steps ++ steps_of_kind kind n k x whole)
     → Logs (take count (events_of (steps_of_kind kind n k x whole))) d x.next → Did error kind n k x steps c
@@ -84,7 +84,7 @@ did error kind n k x steps c d whole count by told fit logs =
 all_taken : (steps : List Step) → take (length steps) (events_of steps) ≡ events_of steps
 all_taken steps = ap (λ (m : ℕ). take m (events_of steps)) (sym (length-map steps event_of)) ∙ take-length (events_of steps)
 
--- all of them
+-- an exchange did all steps of its kind
 did-all : (kind : RequestKind) (n : ℕ) (k : Keying) (x : Exchange) (steps : List Step) (c : Content) (d : DiskState) (whole : List ℕ)
     → IsOfKind kind k (after steps c) x whole → d.content ≡ Some (after steps c) → AreStepsBelow (n + 1) (steps ++ steps_of_kind kind n k x whole)
     → Logs (events_of (steps_of_kind kind n k x whole)) d x.next → Did Done kind n k x steps c
@@ -92,7 +92,7 @@ did-all kind n k x steps c d whole of told fit logs =
     let full : List Step = steps_of_kind kind n k x whole in
     did Done kind n k x steps c d whole (length full) (of, refl) told fit (subst (λ (e : List Event). Logs e d x.next) (sym (all_taken full)) logs)
 
--- the first of them, where the disk failed
+-- an exchange did the first steps of its kind, since the disk failed
 did-part : (kind : RequestKind) (n : ℕ) (k : Keying) (x : Exchange) (steps : List Step) (c : Content) (d : DiskState) (whole : List ℕ)
     → IsOfKind kind k (after steps c) x whole → d.content ≡ Some (after steps c) → AreStepsBelow (n + 1) (steps ++ steps_of_kind kind n k x whole)
     → FailsIn (events_of (steps_of_kind kind n k x whole)) d x.next → Did Failed kind n k x steps c
@@ -101,7 +101,7 @@ did-part kind n k x steps c d whole of told fit fails =
     let within : fails.count ≤ length full = subst (λ (m : ℕ). fails.count ≤ m) (length-map full event_of) fails.within in
     did Failed kind n k x steps c d whole fails.count (inr (of, within)) told fit fails.logs
 
--- none
+-- an exchange did no step
 did-none : (error : ReplyError) (kind : RequestKind) (n : ℕ) (k : Keying) (x : Exchange) (steps : List Step) (c : Content) (d : DiskState)
     → DidBy error kind n k (after steps c) x (record { whole = []; count = 0 }) → d.content ≡ Some (after steps c) → AreStepsBelow n steps → Logs [] d x.next → Did error kind n k x steps c
 did-none error kind n k x steps c d by told below logs = record {
@@ -123,7 +123,7 @@ take-none (suc n) = refl
 fails-none : {d new : DiskState} → FailsIn [] d new → Logs [] d new
 fails-none {d} {new} fails = let none : take fails.count [] ≡ [] = take-none fails.count in subst (λ (e : List Event). Logs e d new) none fails.logs
 
--- ---- by kind
+-- ---- exchanges by their kind
 
 -- the steps of a write fit after others
 write-fits : (n : ℕ) (k : Keying) (x : Exchange) (steps : List Step) (whole : List ℕ) → AreStepsBelow n steps → IsKeying k
@@ -136,7 +136,7 @@ write-fits n k x steps whole below is size are =
     let more = AreStepsBelow-raw (n + 1) 0 (steps ++ new) (flush_events flush) wrote (flush-fit flush) in
     subst (AreStepsBelow (n + 1)) (append_assoc steps new (raw_steps (flush_events flush)) ∙ ap (λ (l : List Step). steps ++ (new ++ l)) (sym (flush-raw flush))) more
 
--- their events
+-- the events of the steps of a write
 write-logs : (n : ℕ) (k : Keying) (x : Exchange) (whole : List ℕ)
     → events_of (steps_of_write n k x.request whole) ≡ range_writes k (range_of x.request) whole ++ flush_events (has_fua x.request.flags)
 write-logs n k x whole =
@@ -157,7 +157,7 @@ did-read Invalid side n x steps c d told below h = did-still Invalid kinds.Read 
 did-read ReadOnly side n x steps c d told below h = absurd h
 did-read PassesEnd side n x steps c d told below h = absurd h
 
--- the sectors of a write are there, as the content tells
+-- the sectors of a write are there, as the content says
 room-told : (k : Keying) (q : Request) (c : Content) (d : DiskState) → IsKeying k → d.content ≡ Some c → FitsIn k d q
     → first_sector k (range_of q) + sectors_covered k (range_of q) ≤ content_media k c
 room-told k q c d is told inside =

@@ -30,11 +30,11 @@ prepend_known-none : (known : Option (List ℕ)) → known ≡ prepend_known [] 
 prepend_known-none None = refl
 prepend_known-none (Some bytes) = refl
 
--- nothing
+-- the source gave nothing
 pub SourceGave-none : (s : SourceState) → SourceGave [] s s
 SourceGave-none s = record { left = prepend_known-none s.left; later = omega arith }
 
--- and nothing more
+-- the source gave these bytes and nothing more
 pub SourceGave-bare : {xs : List ℕ} {source rest : SourceState} → SourceGave xs source rest → SourceGave (xs ++ []) source rest
 SourceGave-bare {xs} {source} {rest} h = subst (λ (l : List ℕ). SourceGave l source rest) (sym (append-nil xs)) h
 

@@ -15,16 +15,16 @@ concat-more texts text = concat-append texts (text ∷ []) ∙ ap (λ (l : List 
 pub map-more : {X : Type 0} (f : X → List ℕ) (xs : List X) (x : X) → map f (xs ++ x ∷ []) ≡ map f xs ++ f x ∷ []
 map-more f xs x = map-append f xs (x ∷ [])
 
--- one more
+-- one more text was given
 pub gave-more : {X : Type 0} (f : X → List ℕ) (xs : List X) (x : X) {sink middle after : SinkState} → TookAll (concat (map f xs)) sink middle → TookAll (f x) middle after → TookAll (concat (map f (xs ++ x ∷ []))) sink after
 gave-more f xs x {sink} {middle} {after} a b =
     subst (λ (l : List ℕ). TookAll l sink after) (sym (ap concat (map-more f xs x) ∙ concat-more (map f xs) (f x))) (TookAll-then (concat (map f xs)) (f x) a b)
 
--- one more, in which the sink failed
+-- one more text was given in part, since the sink failed
 pub gave-part : {X : Type 0} (f : X → List ℕ) (xs : List X) (x : X) {sink middle after : SinkState} → TookAll (concat (map f xs)) sink middle → TookPart (f x) middle after → GaveButLast (map f (xs ++ x ∷ [])) sink after
 gave-part f xs x {sink} {middle} a b = record { before = map f xs; last = f x; are = map-more f xs x; middle = middle; gave = a; part = b }
 
--- the first, which the sink failed in
+-- the first text, in which the sink failed
 pub gave-first : (text : List ℕ) {sink after : SinkState} → TookPart text sink after → GaveButLast (text ∷ []) sink after
 gave-first text {sink} a = record { before = []; last = text; are = refl; middle = sink; gave = TookAll-nothing sink; part = a }
 

@@ -90,11 +90,11 @@ some_unit Sha512 = omega arith
 stands-plain : (P : Writing → Type 0) (k : Keying) (j : ℕ) (reading : Result (List ℕ) ℕ) → j < units k → (st : Stands P k j reading) → plain_bytes st.unit ≡ part (unit_bytes_of k.auth) j st.unit.bytes
 stands-plain P k j reading lt st = (λ i. get_or (units_in (st.keying i) st.unit.bytes) (st.number i) []) ∙ get_or-parts (unit_bytes_of k.auth) (units k) j st.unit.bytes lt
 
--- all but its first bytes
+-- all of a unit but its first bytes
 stands-rest : (P : Writing → Type 0) (k : Keying) (j : ℕ) (reading : Result (List ℕ) ℕ) → j < units k → (st : Stands P k j reading) → drop 16 (opened_bytes reading) ≡ drop 16 (part (unit_bytes_of k.auth) j st.unit.bytes)
 stands-rest P k j reading lt st = ap (λ (r : Result (List ℕ) ℕ). drop 16 (opened_bytes r)) st.reads.is ∙ st.reads.rest ∙ ap (drop 16) (stands-plain P k j reading lt st)
 
--- some of its bytes, which begin after the first 16 where these may be lost
+-- some bytes of a unit, which begin after the first 16 if these may be lost
 record SameThere (f whole : List ℕ) (s n : ℕ) : Type 0 where
   reach : s + n ≤ length f
   same : take n (drop s f) ≡ take n (drop s whole)
@@ -146,7 +146,7 @@ stands-whole P k j reading some lt st =
     let large = some_unit k.auth in
     omega (arith, whole, left, mine, all, large)
 
--- where all units of its logical sector stand, bytes in one of them are those of what stands there
+-- if all units of its logical sector stand, bytes in one of them are those of what stands there
 pub part-stands : (P : ℕ → Writing → Type 0) (k : Keying) (image : List (List ℕ)) (r : ByteRange) (j : ℕ) → IsKeying k → KeepsFront k j r → IsInUnit k j r
     → first_sector k r * units k + units k ≤ length image → (stand : (i : ℕ) → i < units k → Stands (P i) k i (image_unit k (first_sector k r) image i)) → (lt : j < units k)
     → range_reading k (survivor image) r ≡ Ok (take r.count (drop (skipped k r) (stand j lt).unit.bytes))

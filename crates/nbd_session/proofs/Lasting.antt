@@ -1,4 +1,4 @@
--- What was answered before a flush that was answered too lasts.
+-- What was acknowledged lasts if a flush after it was acknowledged too.
 use Rattle.std.proofs.Common.{◌≡◌, ◌∙◌, ◌⊎◌, inl, inr, ℕ, zero, suc, ◌+◌, ◌-◌, ◌*◌, ◌/◌, ◌%◌, ◌<◌, ◌≤◌, Bool, true, false, List, [], ◌∷◌, ◌++◌, length, map, take, drop, Option, Some, IfSome, Result, Ok, Err, refl, sym, ap, subst, arith, append_assoc, append-nil, add-mul, div-add-mod', lt_of_mul-lt-mul_right, length-drop, mul-le-mul_right}
 use Rattle.std.proofs.Math.Seq.{take-append-add, take-length}
 use Rattle.std.proofs.lemmas.List.{drop-drop}
@@ -291,7 +291,7 @@ cut_out lead skip n reach d more all whole bytes place fits inside are =
 three : (a b c d : List Step) → (a ++ (b ++ c)) ++ d ≡ a ++ (b ++ (c ++ d))
 three a b c d = simp append_assoc
 
--- it stands after these steps, and what follows has a flush and leaves the part alone
+-- the write stands after these steps, and what follows has a flush and leaves the part alone
 stands : (number : ℕ) (k : Keying) (q : Request) (part : ByteRange) (bytes whole : List ℕ) (c : Content) (earlier tail : List Step) (image : List (List ℕ)) → IsKeying k → IsOfWrite k (after earlier c) q bytes whole
     → IsPartOf part (range_of q) → IsQuiet k (first_sector k part) (sectors_covered k part) tail → HaveFlush tail
     → IsTorn (after (earlier ++ (data_steps number k (first_sector k (range_of q)) (sectors_covered k (range_of q)) whole ++ tail)) c) image
@@ -437,7 +437,7 @@ in_room k c first (suc count) n is inside low high =
     let split : (first + suc count) * units k ≡ last * units k + units k = omega arith in
     omega (arith, there, split, high)
 
--- as it stood then, so it stands in a torn image
+-- a range stands in a torn image as it stood at the flush
 kept-by : (k : Keying) (c : Content) (r : ByteRange) (earlier later : List Step) (image : List (List ℕ)) → IsKeying k → first_sector k r + sectors_covered k r ≤ content_media k c
     → IsQuiet k (first_sector k r) (sectors_covered k r) later → IsTorn (after ((earlier ++ Flush ∷ []) ++ later) c) image
     → range_reading k (survivor image) r ≡ range_reading k (after (earlier ++ Flush ∷ []) c) r
@@ -501,7 +501,7 @@ read_by Invalid side y bytes image old has reads h = tt
 read_by ReadOnly side y bytes image old has reads h = absurd h
 read_by PassesEnd side y bytes image old has reads h = absurd h
 
--- what a range of a survivor reads as is answered
+-- what a range of a survivor reads as is what a read returns
 pub reads-range : (k : Keying) (r : ByteRange) (bytes : List ℕ) (image : List (List ℕ)) → range_reading k (survivor image) r ≡ Ok bytes → (side : Side) (y : Exchange) (old : DiskState) → side.keying ≡ k → HasImage image old
     → ServesExchange side y old → request_kind y.request.code ≡ kinds.Read → range_of y.request ≡ r → AnswersWith y.error y bytes old
 reads-range k r bytes image lasts side y old keyed has serves kind same =

@@ -1,4 +1,4 @@
--- What was answered before a flush that was answered too lasts, or what a later write gave its sectors does.
+-- What was acknowledged before a flush that was acknowledged too lasts, or what a later write gave its sectors does.
 use Rattle.std.proofs.Common.{◌≡◌, ◌∙◌, ◌⊎◌, inl, inr, ℕ, zero, suc, ◌+◌, ◌-◌, ◌*◌, ◌<◌, ◌≤◌, List, [], ◌∷◌, ◌++◌, length, map, take, drop, All, Contains, refl, sym, ap, subst, arith, append_assoc, length-append}
 use Rattle.std.proofs.Math.Seq.{drop-append_seam, take-append_seam, take-nil}
 use Rattle.std.proofs.lemmas.List.Elements.{All-contains_itself, All-drop, All-nil, All-same, All-take, All-weaker}
@@ -103,7 +103,7 @@ placed-second P a b n all =
 
 -- ---- the write that was flushed
 
--- its deed is the first
+-- the deed of the write is the first
 record OwnDeed (n : ℕ) (k : Keying) (c : Content) (x : Exchange) (between : List Exchange) (bytes : List ℕ) (ds : List Deed) : Type 0 where
   own : Deed
   others : List Deed
@@ -218,7 +218,7 @@ deeds_since k xs c new s x bytes a =
     let number : 0 + length a.before ≡ length a.before = omega arith in
     (before, refl, subst (λ (m : ℕ). DidEach m k before rest (drop (length a.before) s.deeds)) number (subst (DidEach (0 + length a.before) k before rest) (sym deeds) cut.did_second))
 
--- its sectors are there
+-- the sectors of the write are there
 there_are : (k : Keying) (xs : List Exchange) (c : Content) (new : DiskState) (s : Survives k xs c new) (x : Exchange) (bytes : List ℕ) (a : IsFlushedWrite xs x bytes) (sector : ℕ) → Covers k (range_of x.request) sector → sector < content_media k c
 there_are k xs c new s x bytes a sector covers =
     let since = deeds_since k xs c new s x bytes a in
@@ -261,7 +261,7 @@ part-given k r part d bytes some is fits written =
     let ends = is.ends in
     cut_out ((first_sector k part - first_sector k r) * k.sectorsize) (skipped k part) part.count k.sectorsize (part.offset - r.offset) (skipped k r) r.count d.whole bytes in_it.place fits (omega (arith, starts, ends)) written
 
--- where something was placed, the deed is that of a write
+-- if something was placed, the deed is that of a write
 of-kind : (error : ReplyError) (kind : RequestKind) (number : ℕ) (k : Keying) (c : Content) (x : Exchange) (d : Deed) → DidBy error kind number k c x d → (d.count ≡ 0 → ⊥) → IsOfKind kind k c x d.whole
 of-kind Done kind number k c x d by some = by.0
 of-kind Failed kind number k c x d by some = elim by [ inl none ↦ absurd (some none) | inr of ↦ of.0 ]

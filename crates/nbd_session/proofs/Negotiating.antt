@@ -35,13 +35,13 @@ info_fits code bytes export h = by_test (has_info_shape bytes) (told code export
 few_data : (client : ClientFlags) (option : OptionHead) → is_taken client option ≡ true → option.length ≤ 16384
 few_data client option h = grind (arith, nat_tests)
 
--- its data are as many as its head says
+-- an option has as many data as its head says
 pub many_data : (client : ClientFlags) (option : OptionHead) (room bytes : List ℕ) → is_taken client option ≡ true → 16384 ≤ length room → length bytes ≡ length (take option.length room) → length bytes ≡ option.length
 many_data client option room bytes taken wide h =
     let few : option.length ≤ 16384 = few_data client option taken in
     h ∙ length-take-le option.length room (omega (arith, few, wide))
 
--- where an option is cut, the source ended or failed
+-- if an option is cut, the source ended or failed
 cut_stops : (end : End) (client : ClientFlags) (taken bytes : List ℕ) (source middle rest : SourceState) → source.faults ≤ middle.faults → IsOptionCut client taken → Fills bytes middle (Err end) rest
     → StopsOptions end client taken source rest
 cut_stops Closed client taken bytes source middle rest later cut h = (cut, h.1)
@@ -49,7 +49,7 @@ cut_stops ReadFault client taken bytes source middle rest later cut h = (cut, om
 cut_stops WriteFault client taken bytes source middle rest later cut h = absurd h
 cut_stops Malformed client taken bytes source middle rest later cut h = absurd h
 
--- its head didn't come
+-- the head of an option didn't come
 pub no_head : (export : Export) (client : ClientFlags) (end : End) (head : List ℕ) (source rest : SourceState) (sink : SinkState) (result : Result Outcome End) → result ≡ Err end → length head ≡ 16
     → Fills head source (Err end) rest → AnswersOption export client source rest sink result sink
 no_head export client end head source rest sink result why long h =
@@ -64,7 +64,7 @@ no_head export client end head source rest sink result why long h =
       silent = refl;
     })
 
--- its data didn't all come
+-- the data of an option didn't all come
 pub no_data : (export : Export) (client : ClientFlags) (end : End) (head bytes : List ℕ) (option : OptionHead) (source middle rest : SourceState) (sink : SinkState) (result : Result Outcome End) → result ≡ Err end
     → length head ≡ 16 → option_head_in head ≡ Some option → is_taken client option ≡ true → length bytes ≡ option.length → SourceGave head source middle → Fills bytes middle (Err end) rest
     → AnswersOption export client source rest sink result sink
@@ -90,7 +90,7 @@ no_data export client end head bytes option source middle rest sink result why l
       silent = refl;
     })
 
--- an option and its answer
+-- an option and the reply to it
 pub one_answered : {export : Export} {client : ClientFlags} {head bytes : List ℕ} {option : OptionHead} {source middle rest : SourceState} {sink : SinkState} {result : Result Outcome End} {after : SinkState} → length head ≡ 16
     → option_head_in head ≡ Some option → is_taken client option ≡ true → length bytes ≡ option.length → SourceGave head source middle → SourceGave bytes middle rest
     → GivesAnswer export client (record { head = head; code = option.code; bytes = bytes }) sink result after → AnswersOption export client source rest sink result after
@@ -200,7 +200,7 @@ stops_so WriteFault export client n source between rest sink halfway after so by
 stops_so Malformed export client n source between rest sink halfway after so bytes took stops silent =
     stops_by Malformed export client n source between rest sink halfway after so bytes took silent (λ texts all. all) (so.lead, inl stops)
 
--- the last answer couldn't be given
+-- the last reply couldn't be given
 fails_so : (end : End) (export : Export) (client : ClientFlags) (n : ℕ) (source between rest : SourceState) (sink halfway after : SinkState) → AnsweredSoFar export client n source between sink halfway
     → AnswersOne export client between rest halfway (Err end) after → AnswersRun export client source rest sink (Err end) after
 fails_so WriteFault export client n source between rest sink halfway after so one =
@@ -232,7 +232,7 @@ options_end end {export} {client} {n} {source} {between} {rest} {sink} {halfway}
       stops_so end export client n source between rest sink halfway after so none.bytes none.took (subst (λ (e : End). StopsOptions e client none.bytes between rest) same none.stops) none.silent
 ]
 
--- as many as are counted
+-- as many options were taken as a session takes at most
 pub full_of_options : (export : Export) (client : ClientFlags) (n : ℕ) (source rest : SourceState) (sink after : SinkState) → 2 ^ 64 - 1 ≤ n → AnsweredSoFar export client n source rest sink after
     → AnswersRun export client source rest sink (Err Malformed) after
 full_of_options export client n source rest sink after many so = record {
@@ -243,7 +243,7 @@ full_of_options export client n source rest sink after many so = record {
   why = (so.lead, inr (omega (arith, many, so.count), refl));
 }
 
--- ---- all of it
+-- ---- the whole negotiation
 
 -- the faults are counted from an earlier time
 LeadOn-earlier : (result : Result (Unit {0}) End) (client : ClientFlags) (os : List ClientOption) (bytes : List ℕ) (source middle rest : SourceState) → source.faults ≤ middle.faults

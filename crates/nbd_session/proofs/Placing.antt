@@ -1,4 +1,4 @@
--- Where a write was flushed, only what it or a later one placed there may stand.
+-- If a write was flushed, only what it or a later one placed there may stand.
 use Rattle.std.proofs.Common.{◌≡◌, ◌∙◌, ◌⊎◌, inl, inr, ℕ, zero, suc, ◌+◌, ◌*◌, ◌<◌, ◌==◌, Bool, true, false, cond, List, [], ◌∷◌, ◌++◌, length, get_or, take, drop, All, Result, Ok, refl, sym, ap, subst, arith, add-mul, length-append, lt_of_mul-lt-mul_right}
 use Rattle.std.proofs.lemmas.Bool.{eq-eqb, eqb-true}
 use Rattle.std.proofs.lemmas.List.{drop-drop}
@@ -36,7 +36,7 @@ All-cell P (Place m w ∷ steps) n ws new some all =
 All-cell P (Flush ∷ steps) n ws new some all =
     All-cell P steps n (last_writing ws ∷ []) new (omega arith) (All-cons P (last_writing ws) [] (All-last P ws some all) (All-nil P))
 
--- the last, where one more step may be here
+-- the last writing, if one more step may be here
 last-more : (P : Writing → Type 0) (here : Bool) (w : Writing) (later now : List Writing) → All P (cond here (w ∷ later) later) → P (last_writing now)
     → All P later × P (last_writing (cond here (now ++ w ∷ []) now))
 last-more P true w later now new last = (All-tail P w later new, subst P (sym (last_writing-push now w)) (All-head P w later new))
@@ -47,7 +47,7 @@ some-more : (P : Writing → Type 0) (here : Bool) (w : Writing) (later now : Li
 some-more P true w later now new some = (All-tail P w later new, inl (subst P (sym (last_writing-push now w)) (All-head P w later new)))
 some-more P false w later now new some = (new, inr some)
 
--- where something was placed, the last was placed
+-- if something was placed, the last was placed
 last-placed : (P : Writing → Type 0) (steps : List Step) (n : ℕ) (ws : List Writing) → All P (placed_at steps n) → P (last_writing ws) ⊎ (0 < length (placed_at steps n)) → P (last_writing (cell_after steps n ws))
 last-placed P [] n ws new (inl last) = last
 last-placed P [] n ws new (inr some) = absurd (omega (arith, some))
@@ -57,14 +57,14 @@ last-placed P (Place m w ∷ steps) n ws new (inr some) =
     let one = some-more P (m == n) w (placed_at steps n) ws new some in last-placed P steps n (cond (m == n) (ws ++ w ∷ []) ws) one.0 one.1
 last-placed P (Flush ∷ steps) n ws new last = last-placed P steps n (last_writing ws ∷ []) new last
 
--- a flush leaves of what was there before the last alone
+-- a flush leaves only the last of what was there before
 flushed-cell : (P : Writing → Type 0) (steps : List Step) (n : ℕ) (ws : List Writing) → HaveFlush steps → P (last_writing ws) → All P (placed_at steps n) → All P (cell_after steps n ws)
 flushed-cell P [] n ws flush last new = absurd flush
 flushed-cell P (Place m w ∷ steps) n ws flush last new =
     let one = last-more P (m == n) w (placed_at steps n) ws new last in flushed-cell P steps n (cond (m == n) (ws ++ w ∷ []) ws) flush one.1 one.0
 flushed-cell P (Flush ∷ steps) n ws flush last new = All-cell P steps n (last_writing ws ∷ []) new (omega arith) (All-cons P (last_writing ws) [] last (All-nil P))
 
--- what may stand in a cell was placed there by these steps, where the first placed something there and the rest flushed
+-- what may stand in a cell was placed there by these steps, if the first placed something there and the rest flushed
 pub cell-placed : (P : Writing → Type 0) (steps tail : List Step) (n : ℕ) (ws : List Writing) → HaveFlush tail → 0 < length (placed_at steps n) → All P (placed_at steps n) → All P (placed_at tail n)
     → All P (cell_after (steps ++ tail) n ws)
 cell-placed P steps tail n ws flush some new later =
@@ -183,7 +183,7 @@ some-data number k first (suc count) whole sector j (suc lead) lt below same =
 
 -- ---- what a unit of a logical sector reads as from such cells
 
--- as a unit for which this holds, or strange bytes stand there
+-- a unit reads as one for which this holds, or strange bytes stand there
 pub record Stands (P : Writing → Type 0) (k : Keying) (j : ℕ) (reading : Result (List ℕ) ℕ) : Type 0 where
   pub unit : PutUnit
   pub is : P (Put unit)

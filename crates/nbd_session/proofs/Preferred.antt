@@ -1,4 +1,4 @@
--- The bytes that requests best have are a power of two.
+-- The preferred number of bytes of a request is a power of two.
 use Rattle.std.proofs.Common.{◌≡◌, ◌⊎◌, inl, inr, ℕ, ◌^◌, ◌==◌, ◌||◌, List, [], ◌∷◌, Bool, true, false, refl, sym, subst}
 use Rattle.std.proofs.lemmas.Bool.{eqb-true}
 use Rattle.std.specs.Prelude.{max}
@@ -20,7 +20,7 @@ best_among size (k ∷ ks) all h =
       | inr more ↦ best_among size ks all.1 more
     ]
 
--- a sector, and 4,096 bytes at least
+-- the larger of a sector and 4,096 bytes is a power of two
 pub best : (size : ℕ) → is_sector_size size ≡ true → is_sector_size (max size 4096) ≡ true
 unfolding IsBest
 best size h = best_among size (9 ∷ 10 ∷ 11 ∷ 12 ∷ 13 ∷ 14 ∷ 15 ∷ 16 ∷ []) (refl, (refl, (refl, (refl, (refl, (refl, (refl, (refl, tt)))))))) h

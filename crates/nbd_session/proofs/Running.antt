@@ -59,7 +59,7 @@ served-next done side n old middle new source between rest sink halfway after be
 noted-on : (xs : List Exchange) (before denied : Bool) → before ≡ list_any is_denied xs → denied ≡ false → (before || denied) ≡ list_any is_denied xs
 noted-on xs before denied so none = ap (λ (b : Bool). before || b) none ∙ or-false before ∙ so
 
--- none was served, and the session ends
+-- no request was served, and the session ends
 stops-by : (end : End) (side : Side) (n : ℕ) (old middle new : DiskState) (source between rest : SourceState) (sink halfway after : SinkState) (before denied : Bool) (so : ServedSoFar side n old middle source between sink halfway before)
     → (none : ServesNone middle new between rest halfway (Err end) after denied) → ((texts : List (List ℕ)) → TookAll (concat texts) sink after → GivesTexts end texts sink after)
     → EndsRun end so.exchanges none.bytes source rest → ServesRun side old new source rest sink end after (before || denied)
@@ -83,7 +83,7 @@ stops-run WriteFault side n old middle new source between rest sink halfway afte
 stops-run Malformed side n old middle new source between rest sink halfway after before denied so none =
     stops-by Malformed side n old middle new source between rest sink halfway after before denied so none (λ texts all. all) none.stops
 
--- the last was served, and its answer couldn't be given
+-- the last was served, and its reply couldn't be given
 fails-run : (end : End) (side : Side) (n : ℕ) (old middle new : DiskState) (source between rest : SourceState) (sink halfway after : SinkState) (before denied : Bool) → ServedSoFar side n old middle source between sink halfway before
     → ServesOne side middle new between rest halfway (Err end) after denied → ServesRun side old new source rest sink end after (before || denied)
 fails-run Closed side n old middle new source between rest sink halfway after before denied so one = absurd one.gives
@@ -124,7 +124,7 @@ ends_by p q end n old middle new source between rest sink halfway after before d
 pub kept_on : {D : Type 0} {p q r : Attached D} → IsKept p q → IsKept q r → IsKept p r
 kept_on a b = record { keying = b.keying ∙ a.keying; slot = b.slot ∙ a.slot; readonly = b.readonly ∙ a.readonly }
 
--- as many as are counted
+-- as many requests were served as a session takes at most
 pub full : (side : Side) (n : ℕ) (old new : DiskState) (source rest : SourceState) (sink after : SinkState) (denied : Bool) → 2 ^ 64 - 1 ≤ n → ServedSoFar side n old new source rest sink after denied
     → ServesRun side old new source rest sink Closed after denied
 full side n old new source rest sink after denied many so = record {

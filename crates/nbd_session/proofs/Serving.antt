@@ -32,7 +32,7 @@ from_part s k room ys inside =
     let place : s ≡ length (take s room) + 0 = omega (arith, length-take-le s room inside) in
     ap (λ (m : ℕ). drop m (put_mid s k room ys)) place ∙ drop-append-add (take s room) (ys ++ post_of s k room) 0
 
--- a head that was put before bytes, and they
+-- a head that was put before bytes, together with these bytes
 pub head_and_bytes : (s n k : ℕ) (room head : List ℕ) → k ≡ 16 → length head ≡ 16 → s ≤ length room → take (16 + n) (drop s (put_mid s k room head)) ≡ head ++ take n (drop (s + 16) room)
 head_and_bytes s n k room head same long inside =
     ap (take (16 + n)) (from_part s k room head inside)
@@ -129,7 +129,7 @@ one kind side head q payload error bytes old new source rest sink result after d
       noted = subst (λ (j : RequestKind). denied ≡ denied_by j error) (sym is) noted;
     })
 
--- where a request is cut, the source ended or failed
+-- if a request is cut, the source ended or failed
 cut_stops : (end : End) (taken bytes : List ℕ) (source middle rest : SourceState) → source.faults ≤ middle.faults → IsCut taken → Fills bytes middle (Err end) rest → Stops (Err end) taken source rest
 cut_stops Closed taken bytes source middle rest later cut h = inr (cut, h.1)
 cut_stops ReadFault taken bytes source middle rest later cut h = (cut, omega (arith, later, h.1))
@@ -203,7 +203,7 @@ no_request head d source rest sink long reads took =
     none Malformed head d d source rest sink (Err Malformed) sink false refl took
     (record { size = long; none = λ request same. absurd (none-some request (sym reads ∙ same)) }) refl refl refl
 
--- the head didn't come
+-- the head of a request didn't come
 pub no_head : (end : End) (head : List ℕ) (d : DiskState) (source rest : SourceState) (sink : SinkState) → length head ≡ 28 → Fills head source (Err end) rest
     → ServesNone d d source rest sink (Err end) sink false
 no_head end head d source rest sink long h =

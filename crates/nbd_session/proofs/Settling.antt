@@ -59,7 +59,7 @@ HaveFlush-right [] b h = h
 HaveFlush-right (Place m w ∷ a) b h = HaveFlush-right a b h
 HaveFlush-right (Flush ∷ a) b h = tt
 
--- where nothing is placed and there is a flush, the last alone is kept
+-- if nothing is placed and there is a flush, only the last writing is kept
 settles : (steps : List Step) (n : ℕ) (ws : List Writing) → placed_at steps n ≡ [] → HaveFlush steps → cell_after steps n ws ≡ last_writing ws ∷ []
 settles [] n ws none flush = absurd flush
 settles (Place m w ∷ steps) n ws none flush =
@@ -247,7 +247,7 @@ pub data-same : (k : Keying) (first count : ℕ) (c d : Content) → ((n : ℕ) 
     → data_reading k c first count ≡ data_reading k d first count
 data-same k first count c d same = ap joined (sectors-same count k first c d same)
 
--- after a flush one writing alone is in a cell, and stays there while nothing else is placed
+-- after a flush only one writing is in a cell, and it stays there while nothing else is placed
 pub stays-alone : (c : Content) (earlier later : List Step) (n : ℕ) → placed_at later n ≡ []
     → (w : Writing) × (cell c ((earlier ++ Flush ∷ []) ++ later) n ≡ w ∷ []) × (cell c (earlier ++ Flush ∷ []) n ≡ w ∷ [])
 stays-alone c earlier later n quiet =
@@ -256,7 +256,7 @@ stays-alone c earlier later n quiet =
     let flushed : cell_after (earlier ++ Flush ∷ []) n start ≡ w ∷ [] = cell_after-append earlier (Flush ∷ []) n start in
     (w, cell_after-append (earlier ++ Flush ∷ []) later n start ∙ ap (cell_after later n) flushed ∙ one-quiet later n w quiet, flushed)
 
--- so a torn image has there what stood when the flush was made
+-- a torn image has in such a sector what stood there when the flush was made
 pub stands-as-flushed : (c : Content) (earlier later : List Step) (image : List (List ℕ)) (n : ℕ) → placed_at later n ≡ [] → n + 1 < length c.base
     → IsTorn (after ((earlier ++ Flush ∷ []) ++ later) c) image → get_or image n [] ≡ present (after (earlier ++ Flush ∷ []) c) n
 stands-as-flushed c earlier later image n quiet small torn =

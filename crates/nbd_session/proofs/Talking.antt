@@ -19,7 +19,7 @@ use Rattle.nbd_session.specs.declared.streams.End.TheVariants.{Closed, ReadFault
 use Rattle.nbd_session.proofs.Filling.{SourceGave-then}
 use Rattle.nbd_session.proofs.Giving.{gave-then}
 
--- it came to no requests
+-- a session came to no requests
 ended_before : (export : Export) (side : Side) (end : End) (d : DiskState) (source rest : SourceState) (sink after : SinkState) → export ≡ export_for side d most
     → Negotiates export source rest sink (Err end) after → Talks side end false source rest sink after d d
 ended_before export side end d source rest sink after told h = record {

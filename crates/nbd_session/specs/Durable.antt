@@ -58,8 +58,8 @@ IsOfKind kinds.Write k c x whole = IsOfWrite k c x.request x.payload whole
 IsOfKind kinds.WriteZeroes k c x whole = IsOfWrite k c x.request (zeros_of x.request) whole
 IsOfKind kind k c x whole = Unit {0}
 
--- By what was answered: where it was done, all of its steps; where the disk failed, the first of them or none; and none
--- where it was refused. A write gave its sectors what its own bytes are spliced into.
+-- What an exchange did, by its reply: if it was done, all of its steps; if the disk failed, the first of them or none;
+-- if it was refused, none. A write gave its sectors what its own bytes are spliced into.
 abbrev pub DidBy : ReplyError → RequestKind → ℕ → Keying → Content → Exchange → Deed → Type 0
 DidBy Done kind number k c x d = IsOfKind kind k c x d.whole × (d.count ≡ length (steps_of_kind kind number k x d.whole))
 DidBy Failed kind number k c x d =
@@ -68,13 +68,13 @@ DidBy ReadOnly kind number k c x d = d.count ≡ 0
 DidBy Invalid kind number k c x d = d.count ≡ 0
 DidBy PassesEnd kind number k c x d = d.count ≡ 0
 
--- ---- what all did
+-- ---- what all exchanges did
 
 abbrev pub session_steps : ℕ → Keying → List Exchange → List Deed → List Step
 session_steps number k (x ∷ xs) (d ∷ ds) = exchange_steps number k x d ++ session_steps (number + 1) k xs ds
 session_steps number k xs ds = []
 
--- an exchange did its deed on a disk that told this content, and left it so
+-- an exchange did its deed on a disk that reported this content, and left it so
 pub record DidIts (number : ℕ) (k : Keying) (c : Content) (x : Exchange) (d : Deed) : Type 0 where
   pub by : DidBy x.error (request_kind x.request.code) number k c x d
   pub left : x.next.content ≡ Some (after (exchange_steps number k x d) c)
@@ -87,8 +87,8 @@ DidEach number k c (x ∷ xs) (d ∷ ds) =
 DidEach number k c [] (d ∷ ds) = ⊥
 DidEach number k c (x ∷ xs) [] = ⊥
 
--- What exchanges did to a disk that told this content before, as steps: its history grew by exactly their events; and
--- if power fails at any moment of them, each logical sector of the image that is left reads as promised, under each
+-- What exchanges did to a disk that reported this content before, as steps: its history grew by exactly their events.
+-- If power fails at any moment of them, each logical sector of the image that is left reads as promised, under each
 -- keying.
 pub record Survives (k : Keying) (xs : List Exchange) (c : Content) (new : DiskState) : Type 0 where
   pub deeds : List Deed

@@ -6,8 +6,8 @@ use Rattle.nbd_words.specs.Negotiation.{transmission_flags}
 use Rattle.nbd_words.specs.declared.negotiation.Export.{Export}
 use Rattle.nbd_session.specs.Requests.{Side}
 
--- what is told of a provider on this disk: the bytes of its data; requests best have whole sectors, and 4,096 bytes at
--- least; they have no more than so many
+-- what a client is told of a provider on this disk: the bytes of its data; requests should be of whole sectors, and of
+-- 4,096 bytes at least; they have no more than so many
 abbrev pub export_for : Side → DiskState → ℕ → Export
 export_for side d most = record {
   size = data_size side.keying d;

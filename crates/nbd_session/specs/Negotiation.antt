@@ -1,4 +1,5 @@
--- What a client says before its requests, and what it is given: the greeting, its flags, its options one after another.
+-- What a client sends before its requests, and what it is given: the greeting, its flags, its options one after
+-- another.
 use Rattle.std.specs.Prelude.{◌≡◌, ◌⊎◌, ℕ, ◌<◌, ◌≤◌, true, false, List, [], ◌∷◌, ◌++◌, length, Result, Ok, Err, Some, None}
 use Rattle.std.specs.List.{concat, flat_map}
 use Rattle.std.specs.Io.KnownBytes.{IsAtEnd}
@@ -28,7 +29,7 @@ abbrev pub IsKnownBy : Result ClientFlags End → List ℕ → SourceState → S
 IsKnownBy (Ok client) flags source rest = IsClient flags client
 IsKnownBy (Err end) flags source rest = StaysUnknown end flags source rest
 
--- its flags were taken, or no more than these bytes of them
+-- the flags of the client were taken, or no more than these bytes of them
 pub record TakesClient (source : SourceState) (result : Result ClientFlags End) (rest : SourceState) : Type 0 where
   pub flags : List ℕ
   pub took : SourceGave flags source rest
@@ -36,7 +37,7 @@ pub record TakesClient (source : SourceState) (result : Result ClientFlags End) 
 
 -- ---- one option
 
--- what no client says: an option without its magic number, or one that isn't taken of this client
+-- what no client sends: an option without its magic number, or one that isn't taken of this client
 pub record IsNoOption (client : ClientFlags) (bytes : List ℕ) : Type 0 where
   pub size : length bytes ≡ 16
   pub none : (head : OptionHead) → option_head_in bytes ≡ Some head → is_taken client head ≡ false
@@ -63,7 +64,7 @@ StopsOptions ReadFault client bytes source rest = IsOptionCut client bytes × Ro
 StopsOptions WriteFault client bytes source rest = ⊥
 StopsOptions Malformed client bytes source rest = IsNoOption client bytes
 
--- its answer was given, and this is what it leads to; or the answer could be given in part alone
+-- the reply to an option was given, and this is what the option leads to; or the reply could be given only in part
 abbrev pub GivesAnswer : Export → ClientFlags → ClientOption → SinkState → Result Outcome End → SinkState → Type 0
 GivesAnswer export client o sink (Ok next) after = (next ≡ outcome o) × TookAll (answer export client o) sink after
 GivesAnswer export client o sink (Err WriteFault) after = TookPart (answer export client o) sink after
@@ -78,7 +79,7 @@ pub record AnswersOne (export : Export) (client : ClientFlags) (source rest : So
   pub took : SourceGave (option_bytes option) source rest
   pub gives : GivesAnswer export client option sink result after
 
--- none was, and the session ends
+-- no option was answered, and the session ends
 pub record AnswersNone (client : ClientFlags) (source rest : SourceState) (sink : SinkState) (result : Result Outcome End) (after : SinkState) : Type 0 where
   pub bytes : List ℕ
   pub end : End
@@ -121,7 +122,7 @@ abbrev pub LeadOn : Result (Unit {0}) End → ClientFlags → List ClientOption 
 LeadOn (Ok done) client os bytes source rest = LeadTo client Serving os × (bytes ≡ [])
 LeadOn (Err end) client os bytes source rest = EndsOptions end client os bytes source rest
 
--- just these options were taken, and each was answered; where the sink failed, it was in the last answer
+-- just these options were taken, and each was answered; if the sink failed, it was in the last reply
 pub record AnswersRun (export : Export) (client : ClientFlags) (source rest : SourceState) (sink : SinkState) (result : Result (Unit {0}) End) (after : SinkState) : Type 0 where
   pub options : List ClientOption
   pub bytes : List ℕ
@@ -131,7 +132,7 @@ pub record AnswersRun (export : Export) (client : ClientFlags) (source rest : So
 
 -- ---- the greeting, the flags and the options
 
--- why it came to no options: the greeting couldn't be given, or the client isn't known
+-- why a client came to no options: the greeting couldn't be given, or the client isn't known
 abbrev pub EndsGreeting : End → List ℕ → SourceState → SourceState → Type 0
 EndsGreeting WriteFault flags source rest = flags ≡ []
 EndsGreeting Closed flags source rest = StaysUnknown Closed flags source rest

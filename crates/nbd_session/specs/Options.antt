@@ -1,5 +1,5 @@
--- The options of a client before it is served, and what is answered to each (the NBD project's doc/proto.md, "Option
--- types", "Option reply types" and "Baseline"). An export may have any name.
+-- The options of a client before it is served, and the reply to each (the NBD project's doc/proto.md, "Option types",
+-- "Option reply types" and "Baseline"). An export may have any name.
 use Rattle.std.specs.Prelude.{◌≡◌, ℕ, ◌==◌, ◌&&◌, ◌||◌, nat_le, Bool, true, false, List, [], ◌∷◌, ◌++◌, length, map, take, if◌then◌else◌, Some}
 use Rattle.nbd_words.specs.Negotiation.{block_size_info, client_flags_in, export_info, has_info_shape, option_head_in, option_kind, option_reply_head, plain_export}
 use Rattle.nbd_words.specs.declared.negotiation.ClientFlags.{ClientFlags}
@@ -49,7 +49,7 @@ pub record IsOption (client : ClientFlags) (o : ClientOption) : Type 0 where
   pub reads : option_head_in o.head ≡ Some (record { code = o.code; length = length o.bytes })
   pub taken : is_taken client (record { code = o.code; length = length o.bytes }) ≡ true
 
--- ---- its answer
+-- ---- the reply to an option
 
 abbrev pub option_reply : ℕ → OptionReply → List ℕ → List ℕ
 option_reply code reply bytes = option_reply_head code reply (length bytes) ++ bytes
@@ -68,7 +68,7 @@ told code export =
     option_reply code replies.Info (export_info export)
     ++ (option_reply code replies.Info (block_size_info export) ++ bare_reply code replies.Acknowledged)
 
--- the export, as NBD_OPT_EXPORT_NAME is answered; a client may do without the zeros after it
+-- the export, as the reply to NBD_OPT_EXPORT_NAME; a client may ask to leave out the zeros after it
 abbrev pub plain_answer : Export → ClientFlags → List ℕ
 plain_answer export client = if client.no_zeroes then take 10 (plain_export export) else plain_export export
 
@@ -76,11 +76,11 @@ plain_answer export client = if client.no_zeroes then take 10 (plain_export expo
 abbrev pub list_answer : ℕ → List ℕ → List ℕ
 list_answer code bytes = if length bytes == 0 then listed code else bare_reply code replies.Invalid
 
--- the data of NBD_OPT_INFO and NBD_OPT_GO have their shape
+-- the data of NBD_OPT_INFO and NBD_OPT_GO have the right shape
 abbrev pub info_answer : ℕ → List ℕ → Export → List ℕ
 info_answer code bytes export = if has_info_shape bytes then told code export else bare_reply code replies.Invalid
 
--- what is answered to an option by its kind
+-- the reply to an option by its kind
 abbrev pub answer_by : OptionKind → ℕ → List ℕ → Export → ClientFlags → List ℕ
 answer_by kinds.ExportName code bytes export client = plain_answer export client
 answer_by kinds.Abort code bytes export client = bare_reply code replies.Acknowledged
@@ -92,11 +92,11 @@ answer_by kinds.Unknown code bytes export client = bare_reply code replies.Unsup
 abbrev pub answer : Export → ClientFlags → ClientOption → List ℕ
 answer export client o = answer_by (option_kind o.code) o.code o.bytes export client
 
--- the answers to some options, one each
+-- the replies to some options, one each
 abbrev pub answers : Export → ClientFlags → List ClientOption → List (List ℕ)
 answers export client os = map (answer export client) os
 
--- ---- what it leads to: more options, requests, or the end
+-- ---- what an option leads to: more options, requests, or the end
 
 abbrev pub outcome_by : OptionKind → List ℕ → Outcome
 outcome_by kinds.ExportName bytes = Serving

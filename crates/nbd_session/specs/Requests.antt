@@ -1,5 +1,5 @@
--- What a request of a client does to the provider, and what is answered (the NBD project's doc/proto.md, "Request
--- types" and "Error values").
+-- What a request of a client does to the provider, and the reply to it (the NBD project's doc/proto.md, "Request types"
+-- and "Error values").
 use Rattle.std.specs.Prelude.{◌≡◌, ◌⊎◌, ℕ, ◌<◌, ◌≤◌, Bool, true, false, List, [], ◌∷◌, ◌++◌, length, replicate, Some}
 use Rattle.block_traits.specs.Disk.{DiskState, FailsIn, Logs}
 use Rattle.block_traits.specs.declared.disk.Event.TheVariants.{Flush}
@@ -28,14 +28,14 @@ pub record Side : Type 0 where
   pub keying : Keying
   pub readonly : Bool
 
--- the flags are such as a request of its kind may have
+-- the flags of a request are such as its kind may have
 abbrev pub HasKnownFlags : Request → Type 0
 HasKnownFlags q = q.flags ≤ flags_limit (request_kind q.code)
 
 abbrev pub HasUnknownFlags : Request → Type 0
 HasUnknownFlags q = flags_limit (request_kind q.code) < q.flags
 
--- a request of some bytes, and not of too many
+-- a request of some bytes, but not of too many
 pub record IsWellFormedRequest (q : Request) : Type 0 where
   pub flags : HasKnownFlags q
   pub some : 0 < q.length
@@ -44,7 +44,7 @@ pub record IsWellFormedRequest (q : Request) : Type 0 where
 abbrev pub IsIllFormedRequest : Request → Type 0
 IsIllFormedRequest q = HasUnknownFlags q ⊎ (q.length ≡ 0) ⊎ (most < q.length)
 
--- the provider has all of its bytes
+-- the provider has all bytes of a request
 abbrev pub FitsIn : Keying → DiskState → Request → Type 0
 FitsIn k d q = IsInside k d (range_of q)
 
@@ -55,11 +55,11 @@ pub record MayRead (k : Keying) (d : DiskState) (q : Request) : Type 0 where
   pub formed : IsWellFormedRequest q
   pub inside : FitsIn k d q
 
--- it is refused
+-- a read is refused
 abbrev pub IsRefusedRead : Keying → DiskState → Request → Type 0
 IsRefusedRead k d q = IsIllFormedRequest q ⊎ (FitsIn k d q → ⊥)
 
--- what a read answers, and with which bytes
+-- the reply to a read, and which bytes it has
 abbrev pub AnswersRead : Side → Request → ReplyError → List ℕ → DiskState → DiskState → Type 0
 AnswersRead side q Done bytes old new = MayRead side.keying old q × IsRangeReadAs side.keying (range_of q) bytes old new
 AnswersRead side q Failed bytes old new = MayRead side.keying old q × (bytes ≡ []) × CannotReadRange side.keying (range_of q) old new
@@ -75,7 +75,7 @@ pub record MayWrite (side : Side) (d : DiskState) (q : Request) : Type 0 where
   pub formed : IsWellFormedRequest q
   pub inside : FitsIn side.keying d q
 
--- it is refused
+-- a write is refused
 abbrev pub IsRefusedWrite : Side → DiskState → Request → ReplyError → Type 0
 IsRefusedWrite side d q ReadOnly = side.readonly ≡ true
 IsRefusedWrite side d q Invalid = (side.readonly ≡ false) × IsIllFormedRequest q
@@ -83,7 +83,7 @@ IsRefusedWrite side d q PassesEnd = (side.readonly ≡ false) × IsWellFormedReq
 IsRefusedWrite side d q Done = ⊥
 IsRefusedWrite side d q Failed = ⊥
 
--- what a write of these bytes answers
+-- the reply to a write of these bytes
 abbrev pub AnswersWrite : Side → Request → List ℕ → ReplyError → DiskState → DiskState → Type 0
 AnswersWrite side q payload Done old new =
     MayWrite side old q × IsWrittenWhole side.keying (range_of q) (has_fua q.flags) payload old new
@@ -100,7 +100,7 @@ zeros_of q = replicate q.length 0
 
 -- ---- flushes
 
--- what a flush answers
+-- the reply to a flush
 abbrev pub AnswersFlush : Request → ReplyError → DiskState → DiskState → Type 0
 AnswersFlush q Done old new = HasKnownFlags q × Logs (Flush ∷ []) old new
 AnswersFlush q Failed old new = HasKnownFlags q × FailsIn (Flush ∷ []) old new
@@ -110,7 +110,7 @@ AnswersFlush q PassesEnd old new = ⊥
 
 -- ---- one exchange
 
--- a request, as its head says, with the bytes of a write, and what was answered: the error and the bytes that were read
+-- a request, as its head says, with the bytes of a write, and the reply: the error and the bytes that were read
 pub record Exchange : Type 0 where
   pub head : List ℕ
   pub request : Request
@@ -119,7 +119,7 @@ pub record Exchange : Type 0 where
   pub bytes : List ℕ
   pub next : DiskState
 
--- what is done for each kind of request. A disconnection isn't answered, and so is no exchange.
+-- what is done for each kind of request; a disconnection has no reply, so it is no exchange
 abbrev pub ServesKind : RequestKind → Side → Exchange → DiskState → Type 0
 ServesKind kinds.Read side x old = (x.payload ≡ []) × AnswersRead side x.request x.error x.bytes old x.next
 ServesKind kinds.Write side x old =
@@ -129,7 +129,7 @@ ServesKind kinds.Flush side x old = (x.payload ≡ []) × (x.bytes ≡ []) × An
 ServesKind kinds.Unknown side x old = (x.payload ≡ []) × (x.bytes ≡ []) × (x.error ≡ Invalid) × (x.next ≡ old)
 ServesKind kinds.Disconnect side x old = ⊥
 
--- a request that is served: its 28 bytes are read as it
+-- a request that is served: its 28 bytes are read as that request
 pub record IsRequest (x : Exchange) : Type 0 where
   pub size : length x.head ≡ 28
   pub reads : request_in x.head ≡ Some x.request
@@ -137,12 +137,12 @@ pub record IsRequest (x : Exchange) : Type 0 where
 abbrev pub ServesExchange : Side → Exchange → DiskState → Type 0
 ServesExchange side x old = IsRequest x × ServesKind (request_kind x.request.code) side x old
 
--- an answer by which a client knows that not all was done
+-- an error by which a client knows that not all was done
 abbrev pub is_error : ReplyError → Bool
 is_error Done = false
 is_error error = true
 
--- whether it was to change or to flush the disk, and was answered with an error
+-- whether a request was to change or to flush the disk, and was answered with an error
 abbrev pub denied_by : RequestKind → ReplyError → Bool
 denied_by kinds.Write error = is_error error
 denied_by kinds.WriteZeroes error = is_error error
@@ -152,7 +152,7 @@ denied_by kind error = false
 abbrev pub is_denied : Exchange → Bool
 is_denied x = denied_by (request_kind x.request.code) x.error
 
--- the bytes of its reply
+-- the bytes of the reply
 abbrev pub reply_of : Exchange → List ℕ
 reply_of x = reply_head x.error x.request.cookie ++ x.bytes
 

@@ -9,7 +9,7 @@ use Rattle.nbd_session.specs.Streams.{GivesTexts, SourceGave, limit}
 use Rattle.nbd_session.specs.declared.streams.End.{End}
 use Rattle.nbd_session.specs.declared.streams.End.TheVariants.{Closed, ReadFault, WriteFault, Malformed}
 
--- so many requests were taken, served and answered; whether one was denied
+-- so many requests were taken, served and answered; and whether one was denied
 pub record ServedSoFar (side : Side) (many : ℕ) (old new : DiskState) (source rest : SourceState) (sink after : SinkState) (denied : Bool) : Type 0 where
   pub exchanges : List Exchange
   pub count : length exchanges ≡ many
@@ -25,9 +25,9 @@ EndsRun ReadFault xs bytes source rest = Stops (Err ReadFault) bytes source rest
 EndsRun WriteFault xs bytes source rest = (0 < length xs) × (bytes ≡ [])
 EndsRun Malformed xs bytes source rest = Stops (Err Malformed) bytes source rest
 
--- Just these requests were taken, and the bytes of none that could be served stand after them. Each was served on the
--- disk that the one before it left, and answered; where the sink failed, it was in the answer to the last.
--- Whether one of them was denied.
+-- Just these requests were taken, and after them the bytes of none that could be served. Each was served on the disk
+-- that the one before it left, and answered; if the sink failed, it was in the last reply. It is also said whether one
+-- of them was denied.
 pub record ServesRun (side : Side) (old new : DiskState) (source rest : SourceState) (sink : SinkState) (end : End) (after : SinkState) (denied : Bool) : Type 0 where
   pub exchanges : List Exchange
   pub bytes : List ℕ

@@ -35,7 +35,7 @@ pub record ZerosAreAnswered (side : Side) (q : Request) (old new : DiskState) (s
   pub gives : GivesBytes (reply_head error q.cookie) sink result after
   pub noted : denied ≡ is_error error
 
--- its bytes were all taken, and it was served
+-- the bytes of a write were all taken, and it was served
 pub record WriteIsAnswered (side : Side) (q : Request) (old new : DiskState) (source rest : SourceState) (sink : SinkState) (result : Result (Unit {0}) End) (after : SinkState) (denied : Bool) : Type 0 where
   pub payload : List ℕ
   pub size : length payload ≡ q.length
@@ -46,7 +46,7 @@ pub record WriteIsAnswered (side : Side) (q : Request) (old new : DiskState) (so
   pub gives : GivesBytes (reply_head error q.cookie) sink result after
   pub noted : denied ≡ is_error error
 
--- its bytes didn't all come, and nothing was done
+-- the bytes of a write didn't all come, and nothing was done
 pub record WriteIsCut (q : Request) (old new : DiskState) (source rest : SourceState) (sink : SinkState) (result : Result (Unit {0}) End) (after : SinkState) (denied : Bool) : Type 0 where
   pub bytes : List ℕ
   pub size : length bytes ≡ q.length
@@ -83,7 +83,7 @@ KindIsServed kinds.Disconnect side q old new source rest sink result after denie
 
 -- ---- one request
 
--- a request was taken, and served and answered, or the answer could be given in part alone
+-- a request was taken, and served and answered, or the reply could be given only in part
 pub record ServesOne (side : Side) (old new : DiskState) (source rest : SourceState) (sink : SinkState) (result : Result (Unit {0}) End) (after : SinkState) (denied : Bool) : Type 0 where
   pub exchange : Exchange
   pub serves : ServesExchange side exchange old
@@ -92,7 +92,7 @@ pub record ServesOne (side : Side) (old new : DiskState) (source rest : SourceSt
   pub gives : GivesBytes (reply_of exchange) sink result after
   pub noted : denied ≡ is_denied exchange
 
--- none was, and the session ends
+-- no request was served, and the session ends
 pub record ServesNone (old new : DiskState) (source rest : SourceState) (sink : SinkState) (result : Result (Unit {0}) End) (after : SinkState) (denied : Bool) : Type 0 where
   pub bytes : List ℕ
   pub took : SourceGave bytes source rest

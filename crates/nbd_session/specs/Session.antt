@@ -26,30 +26,31 @@ pub record Talk : Type 0 where
   pub exchanges : List Exchange
   pub rest : List ℕ
 
--- its bytes
+-- the bytes that a client sent
 abbrev pub bytes_said : Talk → List ℕ
 bytes_said t = t.flags ++ (flat_map option_bytes t.options ++ (flat_map exchange_bytes t.exchanges ++ t.rest))
 
--- what the client is given: the greeting, and an answer to each option and each request
+-- what the client is given: the greeting, and a reply to each option and each request
 abbrev pub texts_given : Export → Talk → List (List ℕ)
 texts_given export t = greeting ∷ (answers export t.client t.options ++ map reply_of t.exchanges)
 
 -- ---- why a session ended
 
--- before any option: the greeting couldn't be given, the client's flags didn't come, or no client has them
+-- a session ended before any option: the greeting couldn't be given, the client's flags didn't come, or no client has
+-- them
 pub record EndsUnknown (end : End) (t : Talk) (source rest : SourceState) : Type 0 where
   pub ends : EndsGreeting end t.flags source rest
   pub options : t.options ≡ []
   pub exchanges : t.exchanges ≡ []
   pub bare : t.rest ≡ []
 
--- at one of its options, or after the last
+-- a session ended at one of its options, or after the last
 pub record EndsAtOptions (end : End) (t : Talk) (source rest : SourceState) : Type 0 where
   pub client : IsClient t.flags t.client
   pub ends : EndsOptions end t.client t.options t.rest source rest
   pub exchanges : t.exchanges ≡ []
 
--- at one of its requests, or after the last
+-- a session ended at one of its requests, or after the last
 pub record EndsAtRequests (end : End) (t : Talk) (source rest : SourceState) : Type 0 where
   pub client : IsClient t.flags t.client
   pub options : LeadTo t.client Serving t.options
@@ -63,10 +64,11 @@ abbrev pub FlushesLast : {E : Type 0} → Result (Unit {0}) E → DiskState → 
 FlushesLast (Ok done) old new = Logs (Flush ∷ []) old new
 FlushesLast (Err failed) old new = FailsIn (Flush ∷ []) old new
 
--- What became of a client and a provider on a disk, before the last flush. Just what the client said was taken, and
--- just the answers were given, one for each option and request, in order; where the sink failed, all but the last
--- whole, and nothing was taken after that. The export that was told is the provider. Each request was served on the
--- disk that the one before it left. Whether a write, a request for zeros or a flush was answered with an error.
+-- What became of a client and a provider on a disk, before the last flush. Just what the client sent was taken, and
+-- just the replies were given, one for each option and request, in order. If the sink failed, all but the last were
+-- given whole, and nothing was taken after that. The export that the client was told of is the provider. Each request
+-- was served on the disk that the one before it left. It is also said whether a write, a request for zeros or a flush
+-- was answered with an error.
 pub record Talks (side : Side) (end : End) (denied : Bool) (source rest : SourceState) (sink after : SinkState) (old new : DiskState) : Type 0 where
   pub talk : Talk
   pub took : SourceGave (bytes_said talk) source rest
@@ -75,7 +77,7 @@ pub record Talks (side : Side) (end : End) (denied : Bool) (source rest : Source
   pub served : ServesExchanges side talk.exchanges old new
   pub noted : denied ≡ list_any is_denied talk.exchanges
 
--- the whole session: last the disk was flushed, however it ended
+-- the whole session: at last the disk was flushed, however the session ended
 pub record HasSession {E : Type 0} (side : Side) (end : End) (denied : Bool) (source rest : SourceState) (sink after : SinkState) (flushed : Result (Unit {0}) E) (old new : DiskState) : Type 0 where
   pub last : DiskState
   pub talks : Talks side end denied source rest sink after old last

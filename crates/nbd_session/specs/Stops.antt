@@ -21,7 +21,7 @@ pub record IsDisconnect (bytes : List ℕ) : Type 0 where
   pub reads : request_in bytes ≡ Some request
   pub kind : request_kind request.code ≡ kinds.Disconnect
 
--- what no client says: a request without its magic number, or a write with too many bytes, of which none was taken
+-- what no client sends: a request without its magic number, or a write with too many bytes, of which none was taken
 pub record IsNoRequest (bytes : List ℕ) : Type 0 where
   pub size : length bytes ≡ 28
   pub none : (request : Request) → request_in bytes ≡ Some request → (request_kind request.code ≡ kinds.Write) × (most < request.length)

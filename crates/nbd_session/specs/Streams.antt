@@ -7,7 +7,7 @@ use Rattle.block_traits.specs.Streams.{SinkState, SourceState, TookAll, TookPart
 use Rattle.nbd_session.specs.declared.streams.End.{End}
 use Rattle.nbd_session.specs.declared.streams.End.TheVariants.{Closed, ReadFault, WriteFault, Malformed}
 
--- as many options, and as many requests, as a session takes at most
+-- how many options, and how many requests, a session takes at most
 abbrev pub limit : ℕ
 limit = 2 ^ 64 - 1
 
@@ -16,7 +16,7 @@ pub record SourceGave (bytes : List ℕ) (old new : SourceState) : Type 0 where
   pub left : old.left ≡ prepend_known bytes new.left
   pub later : old.faults ≤ new.faults
 
--- it gave the first of these bytes, and not all
+-- the source gave the first of these bytes, and not all
 pub record GavePart (bytes : List ℕ) (old new : SourceState) : Type 0 where
   pub count : ℕ
   pub within : count < length bytes
@@ -38,7 +38,7 @@ GivesBytes bytes old (Err Closed) new = ⊥
 GivesBytes bytes old (Err ReadFault) new = ⊥
 GivesBytes bytes old (Err Malformed) new = ⊥
 
--- of these texts all but the last were given whole; there the sink failed, and took the first bytes of the last alone
+-- all of these texts but the last were given whole; there the sink failed, and took only the first bytes of the last
 pub record GaveButLast (texts : List (List ℕ)) (old new : SinkState) : Type 0 where
   pub before : List (List ℕ)
   pub last : List ℕ
@@ -54,7 +54,7 @@ GivesTexts Closed texts old new = TookAll (concat texts) old new
 GivesTexts ReadFault texts old new = TookAll (concat texts) old new
 GivesTexts Malformed texts old new = TookAll (concat texts) old new
 
--- these texts were given, and the session goes on, or it ended so
+-- these texts were given, and the session goes on, or it ended as said
 abbrev pub GivesOn : Result (Unit {0}) End → List (List ℕ) → SinkState → SinkState → Type 0
 GivesOn (Ok done) texts old new = TookAll (concat texts) old new
 GivesOn (Err end) texts old new = GivesTexts end texts old new

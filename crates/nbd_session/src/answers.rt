@@ -1,4 +1,4 @@
-//! What is answered to an option.
+//! The replies to options.
 ghost use Rattle.std.specs.Prelude.{◌≡◌};
 ghost use Rattle.nbd_session.specs.Options.{answer_by, bare_reply, info_answer, list_answer, listed, plain_answer, told};
 ghost use Rattle.nbd_session.specs.Streams.{GivesBytes};
@@ -40,7 +40,7 @@ fn give_bare<K: Sink>(code: u32, reply: OptionReply, output: &mut K) -> Result<(
     give_all(&option_reply_head(code, reply, 0), output)
 }
 
-// The export, without a reply's head; the zeros after it are for a client that wants them.
+// The export, without a reply's head. The zeros after it are for a client that wants them.
 fn give_export<K: Sink>(export: &Export, client: &ClientFlags, output: &mut K) -> Result<(), End>
     ensures { GivesBytes (plain_answer export.now client.now) (K.state output.old) result (K.state output.new) }
 {
@@ -67,7 +67,7 @@ fn give_info<K: Sink>(code: u32, bytes: &[u8], export: &Export, output: &mut K) 
     give_all(&telling(code, export), output)
 }
 
-/// Answers an option with these data, in one piece.
+/// Gives the reply to an option with these data, in one piece.
 pub fn give_answer<K: Sink>(
     code: u32,
     kind: OptionKind,

@@ -9,7 +9,7 @@ use byte_ranges::size_of_data;
 use nbd_words::{Export, transmission_flags};
 use provider::Provider;
 
-/// What a client is told of a provider. The bytes that requests best have are a power of two.
+/// What a client is told of a provider. The preferred number of bytes of a request is a power of two.
 pub fn export_of<D: Disk>(provider: &Provider<D>, most: u32) -> Export
     ensures told { result ≡ export_for (side_of provider.now) (D.state provider.now.disk) most }
     ensures preferred { IsTrue (is_sector_size result.preferred) }

@@ -14,15 +14,15 @@ use nbd_words::{
 /// What an option leads to.
 #[derive(Clone, Copy, Debug, PartialEq, Eq)]
 pub enum Outcome {
-    /// Another option.
+    /// To another option.
     More,
-    /// Requests.
+    /// To requests.
     Serving,
-    /// The end.
+    /// To the end of the session.
     Ending,
 }
 
-/// Greets a client and replies to its options, until it wants the export to be served. It may have any name.
+/// Greets a client and replies to its options, until it wants the export to be served, under any name.
 pub fn negotiate<S: Source, K: Sink>(
     input: &mut S,
     output: &mut K,
@@ -49,7 +49,7 @@ fn take_client<S: Source>(input: &mut S) -> Result<ClientFlags, End>
     }
 }
 
-// Answers options until the client wants to be served.
+// Replies to options until the client wants to be served.
 fn answer_options<S: Source, K: Sink>(
     input: &mut S,
     output: &mut K,

@@ -86,7 +86,7 @@ fn serve_flush<D: Disk, K: Sink>(
     (answer(error, request, output), is_error(error))
 }
 
-// Whether an answer is an error.
+// Whether a reply is an error.
 fn is_error(error: ReplyError) -> bool
     ensures { result ≡ is_error error }
 {
@@ -114,7 +114,7 @@ fn flush<D: Disk>(provider: &mut Provider<D>, request: &Request) -> ReplyError
     }
 }
 
-// The bytes that a request speaks of.
+// The bytes that a request is about.
 fn range_of(request: &Request) -> ByteRange
     ensures { result ≡ range_of request.now }
 {

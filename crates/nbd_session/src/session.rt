@@ -21,7 +21,7 @@ pub const ROOM: usize = 33_685_520;
 /// The bytes of the edge, in which a sector is read that a write covers in part.
 pub const EDGE: usize = 65_536;
 
-/// Serves a client until it ends, and then flushes the disk, however the session ended. It gives why it ended, the
+/// Serves a client until it ends, and then flushes the disk, however the session ended. It returns why it ended, the
 /// disk, whether the last flush was made, and whether a write, a request for zeros or a flush was answered with an
 /// error. The room has `ROOM` bytes and the edge `EDGE`; nothing is allocated.
 pub fn serve<D: Disk, S: Source, K: Sink>(
@@ -42,7 +42,7 @@ pub fn serve<D: Disk, S: Source, K: Sink>(
     (end, disk, flushed, denied)
 }
 
-// Gives the disk back, flushed.
+// Returns the disk, flushed.
 fn close<D: Disk>(provider: Provider<D>) -> (D, Result<(), DiskFailed>)
     ensures ok { OnOk result.1 (Logs (Flush ∷ []) (D.state provider.disk) (D.state result.0)) }
     ensures err { OnErr result.1 (FailsIn (Flush ∷ []) (D.state provider.disk) (D.state result.0)) }
@@ -50,7 +50,7 @@ fn close<D: Disk>(provider: Provider<D>) -> (D, Result<(), DiskFailed>)
     provider.detach()
 }
 
-// Serves a client until it ends. It gives why it ended, and whether something was denied.
+// Serves a client until it ends. It returns why it ended, and whether something was denied.
 fn serve_client<D: Disk, S: Source, K: Sink>(
     provider: &mut Provider<D>,
     room: &mut [u8],
@@ -70,7 +70,7 @@ fn serve_client<D: Disk, S: Source, K: Sink>(
     }
 }
 
-// Serves requests until the session ends, and gives the same.
+// Serves requests until the session ends. It returns why it ended, and whether something was denied.
 fn serve_requests<D: Disk, S: Source, K: Sink>(
     provider: &mut Provider<D>,
     room: &mut [u8],

@@ -13,11 +13,11 @@ pub enum End {
     ReadFault,
     /// The sink failed.
     WriteFault,
-    /// The client said what no client says.
+    /// The client sent what no client sends.
     Malformed,
 }
 
-/// Fills `into` with the next bytes of a source. `Closed`: it ended before.
+/// Fills `into` with the next bytes of a source. `Closed`: the source ended before that.
 pub fn fill<S: Source>(input: &mut S, into: &mut [u8]) -> Result<(), End>
     ensures { Fills into.new (S.state input.old) result (S.state input.new) }
 {

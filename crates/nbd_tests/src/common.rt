@@ -18,7 +18,7 @@ pub(crate) fn bytes_of(alloc: Global, digits: &str) -> Result<Vec<u8>, Fail> {
     }
 }
 
-// So many bytes from a place on; zeros where there are none.
+// So many bytes from a place on; zeros beyond the end.
 pub(crate) fn piece<const N: usize>(bytes: &[u8], place: usize) -> [u8; N] {
     let mut found = [0; N];
     for (to, from) in found.iter_mut().zip(bytes.iter().skip(place)) {

@@ -8,8 +8,8 @@ use nbd_session::End;
 use std::alloc::Global;
 use std::test::Fail;
 
-// What the requests of `GOING` ask of a disk, with sectors of 512 bytes: sectors that are read, written, and flushes. A
-// write reads each sector that it covers in part first.
+// What the requests of `GOING` ask of a disk, with sectors of 512 bytes: how many sectors are read, how many are
+// written, and how many flushes there are. A write first reads each sector that it covers in part.
 const CALLS: [(u64, u64, u64); 25] = [
     (1, 1, 1),
     (1, 0, 0),
@@ -38,7 +38,8 @@ const CALLS: [(u64, u64, u64); 25] = [
     (1, 0, 0),
 ];
 
-// Calls of each kind that making a provider takes: none reads, the metadata is written, and flushed before and after.
+// The calls of each kind that making a provider takes: nothing is read, and the metadata is written, with a flush
+// before and after.
 const MADE: (u64, u64, u64) = (0, 1, 2);
 
 fn of_kind(calls: (u64, u64, u64), kind: CallKind) -> u64 {
@@ -49,18 +50,18 @@ fn of_kind(calls: (u64, u64, u64), kind: CallKind) -> u64 {
     }
 }
 
-// A session of which one call of the disk fails.
+// A session in which one call of the disk fails.
 #[derive(Clone, Copy)]
 struct Failing {
     kind: CallKind,
-    // Which one, counted from 1 since the session began.
+    // Which call, counted from 1 since the session began.
     nth: u64,
     // Whether its event landed all the same.
     lands: bool,
 }
 
 impl Failing {
-    // The events that are lost of a request whose call `nth`, counted from 1, fails.
+    // How many events are lost of a request whose call `nth`, counted from 1, fails.
     fn lost(&self, calls: (u64, u64, u64), nth: u64) -> u64 {
         let (_, writes, flushes) = calls;
         let landed = match self.kind {
@@ -141,7 +142,7 @@ fn answer_at(bytes: &[u8], place: usize) -> (u32, u64) {
     )
 }
 
-// 21 sectors are read, 10 written, and there are six flushes with that at the end.
+// In the session 21 sectors are read, 10 are written, and there are six flushes with the one at the end.
 #[test]
 fn a_disk_fails_at_each_call(rt: HostRuntime) -> Result<(), Fail> {
     let alloc = rt.alloc();
@@ -164,8 +165,8 @@ fn a_disk_fails_at_each_call(rt: HostRuntime) -> Result<(), Fail> {
     Ok(())
 }
 
-// What a client of one write and one read is answered where the source or the sink fails at a call: why the session
-// ended, how many bytes were answered, and how many events there are.
+// What a client of one write and one read is answered if the source or the sink fails at a call: why the session ended,
+// how many bytes were answered, and how many events there are.
 fn with_streams(
     alloc: Global,
     place: &mut Place,
@@ -188,7 +189,7 @@ fn with_streams(
 }
 
 // The source is asked for the flags, the head of the option, the head of the write, its bytes, the head of the read and
-// that of the end. The answers are a greeting of 18 bytes, an export of 10, a reply of 16 and one of 32.
+// the head of the request that ends. The replies are a greeting of 18 bytes, an export of 10, and replies of 16 and 32.
 #[test]
 fn a_source_fails_at_each_call(rt: HostRuntime) -> Result<(), Fail> {
     let alloc = rt.alloc();

@@ -79,8 +79,8 @@ fn a_session_begins_as_nbdkits(rt: HostRuntime) -> Result<(), Fail> {
     Ok(())
 }
 
-// The options of the client that asks: structured replies, the exports, what one is by no name and by another, and to
-// be served. Each stands after the one before it, with so many bytes of data.
+// The options of the client of `ASKING`: structured replies, the exports, what one is by no name and by another, and to
+// be served. Each has its place among the client's bytes, its code, and how many bytes of data follow.
 const OPTIONS: [(usize, u32, u32); 5] = [
     (4, 8, 0),
     (20, 3, 0),
@@ -104,7 +104,7 @@ fn options_are_those_of_libnbd(rt: HostRuntime) -> Result<(), Fail> {
     Ok(())
 }
 
-// What answers them: each stands after the one before it.
+// The replies to the options of `ASKING`: the place of each, the option's code, the reply, and how many bytes follow.
 const ANSWERS: [(usize, u32, OptionReply, u32); 8] = [
     (18, 8, OptionReply::Unsupported, 0),
     (38, 3, OptionReply::Server, 4),

@@ -1,4 +1,4 @@
-//! Requests and what refuses them, as doc/proto.md says; and what no client says.
+//! Requests and what refuses them, as doc/proto.md says; and what no client sends.
 use crate::common::{Place, attached, made, request};
 use block_traits::Event;
 use crash_disk::{MemDisk, MemSink, MemSource};
@@ -14,7 +14,7 @@ const BEGINS: [u8; 26] = [
     0, 0,
 ];
 
-// The bytes that answer these: greeting, two pieces of information, and that the export is served.
+// How many bytes answer these: greeting, two pieces of information, and that the export is served.
 const BEGUN: usize = 104;
 
 // NBD_CMD_READ, NBD_CMD_WRITE, NBD_CMD_DISC, NBD_CMD_FLUSH, NBD_CMD_TRIM and NBD_CMD_WRITE_ZEROES.
@@ -37,14 +37,14 @@ fn provider_of(alloc: Global, readonly: bool) -> Result<Provider<MemDisk>, Fail>
     attached(alloc, disk, &meta, readonly)
 }
 
-// One with a code for integrity, of which no sector was written.
+// A provider with a code for integrity, of which no sector was written.
 fn unwritten(alloc: Global, sectorsize: u32) -> Result<Provider<MemDisk>, Fail> {
     let mut disk = MemDisk::new(alloc, 513, 512)?;
     let meta = made(alloc, &mut disk, Auth::Sha256, sectorsize)?;
     attached(alloc, disk, &meta, false)
 }
 
-// Bytes that a client says.
+// Bytes that a client sends.
 #[derive(Drop)]
 struct Client {
     said: Vec<u8>,
@@ -161,7 +161,7 @@ const REFUSED: [(bool, u16, u16, u64, u32, u8); 32] = [
     (true, READ, 0, SIZE, 1, 22),
 ];
 
-// Each is answered, nothing is done for it, and the session goes on.
+// Each of these requests is answered, nothing is done for it, and the session goes on.
 #[test]
 fn requests_are_refused(rt: HostRuntime) -> Result<(), Fail> {
     let alloc = rt.alloc();
@@ -210,7 +210,7 @@ fn writes_are_refused_behind_their_bytes(rt: HostRuntime) -> Result<(), Fail> {
     Ok(())
 }
 
-// What no client says ends the session, and the disk is flushed. What was asked before is answered.
+// What no client sends ends the session, and the disk is flushed. What was asked before is answered.
 #[test]
 fn what_no_client_says_ends_it(rt: HostRuntime) -> Result<(), Fail> {
     let alloc = rt.alloc();
@@ -229,8 +229,8 @@ fn what_no_client_says_ends_it(rt: HostRuntime) -> Result<(), Fail> {
     Ok(())
 }
 
-// What a client asks of the second sector, of so many bytes: to be read, to be written in part, then whole, and in part
-// again.
+// A client's requests for so many bytes of the second sector: to be read, to be written in part, then whole, and in
+// part again.
 fn of_the_second_sector(alloc: Global, size: u32) -> Result<Client, Fail> {
     let start = u64::from(size);
     let mut client = Client::new(alloc)?;
@@ -247,7 +247,7 @@ fn of_the_second_sector(alloc: Global, size: u32) -> Result<Client, Fail> {
 }
 
 // Under a code for integrity a sector that was never written has no tag: it can't be read, and so not written in part.
-// Once it was written whole it can; the one after it still can't.
+// Once it was written whole it can be; the one after it still can't.
 #[test]
 fn sectors_that_were_never_written(rt: HostRuntime) -> Result<(), Fail> {
     let alloc = rt.alloc();
@@ -276,7 +276,7 @@ fn option(code: u32, length: u32) -> [u8; 16] {
     head
 }
 
-// What a client is answered that says this of itself and asks for this option, which has so many bytes of data.
+// What a client is answered that sends these flags and asks for this option, which has so many bytes of data.
 fn asked(
     alloc: Global,
     place: &mut Place,
@@ -301,8 +301,8 @@ const LIST: u32 = 3;
 
 const STRANGE: u32 = 99;
 
-// Flags that aren't known, another magic number, too much data, and an option of a client that takes no answers: none
-// of them is answered after the greeting. What has as much data as is taken is.
+// Flags that aren't known, another magic number, too much data, and an option of a client that takes no replies: none
+// of them is answered after the greeting. An option with just as much data as is allowed is answered.
 #[test]
 fn what_ends_the_negotiation(rt: HostRuntime) -> Result<(), Fail> {
     let alloc = rt.alloc();

@@ -18,7 +18,7 @@ fn provider_of(alloc: Global, sectorsize: u32, readonly: bool) -> Result<Provide
     attached(alloc, disk, &meta, readonly)
 }
 
-// What a client said, and what it was answered.
+// What a client sent, and what it was answered.
 #[derive(Drop)]
 struct Talk {
     said: Vec<u8>,
@@ -40,7 +40,7 @@ fn ended_well(outcome: &Outcome) -> bool {
         && matches!(outcome.disk.history().last(), Some(Event::Flush))
 }
 
-// Whether a client that says this gets this answer.
+// Whether a client that sends this gets this answer.
 fn is_answered(
     alloc: Global,
     place: &mut Place,
@@ -76,11 +76,11 @@ fn sessions_are_answered_as_by_nbdkit(rt: HostRuntime) -> Result<(), Fail> {
     Ok(())
 }
 
-// Where nbdkit tells the preferred size of requests: the greeting, NBD_INFO_EXPORT, and the head and eight bytes of
-// NBD_INFO_BLOCK_SIZE stand before it.
+// The place where nbdkit states the preferred size of requests: the greeting, NBD_INFO_EXPORT, and the head and eight
+// bytes of NBD_INFO_BLOCK_SIZE stand before it.
 const PREFERRED: usize = 76;
 
-// With the largest sectors another preferred size is told, and nothing else differs.
+// With the largest sectors another preferred size is stated, and nothing else differs.
 #[test]
 fn the_largest_sectors(rt: HostRuntime) -> Result<(), Fail> {
     let alloc = rt.alloc();
@@ -95,8 +95,8 @@ fn the_largest_sectors(rt: HostRuntime) -> Result<(), Fail> {
     Ok(())
 }
 
-// How many bytes are answered to the first `taken` bytes of the client that reads and writes. A message is answered
-// when it came whole: what it says of itself and its one option, then each request with the bytes of a write.
+// How many bytes are sent in reply to the first `taken` bytes of the client of `GOING`. A message is answered once it
+// came whole: the client's flags and its one option, then each request with the bytes of a write.
 fn answered_to(taken: usize) -> usize {
     if taken < 28 {
         return 18;
@@ -122,8 +122,8 @@ fn answered_to(taken: usize) -> usize {
     answered
 }
 
-// How many bytes are sent in reply to the first `taken` bytes of the client without fixed newstyle that wants no zeros:
-// what it says of itself and its one option, a write of 16 bytes, and a read of as many.
+// How many bytes are sent in reply to the first `taken` bytes of the client without fixed newstyle that wants no zeros.
+// It sends its flags and its one option, a write of 16 bytes, and a read of as many.
 fn answered_by_name(taken: usize) -> usize {
     if taken < 20 {
         return 18;
@@ -134,7 +134,7 @@ fn answered_by_name(taken: usize) -> usize {
     if taken < 92 { 44 } else { 76 }
 }
 
-// Whether a client that says only the first bytes is answered so many.
+// Whether a client that sends only the first bytes is answered with so many.
 fn is_cut_well(
     alloc: Global,
     place: &mut Place,
@@ -166,7 +166,8 @@ fn what_came_whole_is_answered(rt: HostRuntime) -> Result<(), Fail> {
     Ok(())
 }
 
-// And of a longer one at each byte of its negotiation and of its first request, a write, and then at each eleventh.
+// The client of a longer session goes away at each byte of its negotiation and of its first request, a write, and then
+// at each eleventh byte.
 #[test]
 fn what_came_whole_of_many_requests_is_answered(rt: HostRuntime) -> Result<(), Fail> {
     let alloc = rt.alloc();
@@ -183,7 +184,7 @@ fn what_came_whole_of_many_requests_is_answered(rt: HostRuntime) -> Result<(), F
     Ok(())
 }
 
-// A byte at a time in and out.
+// Bytes come in and go out one by one.
 #[test]
 fn bytes_come_one_by_one(rt: HostRuntime) -> Result<(), Fail> {
     let alloc = rt.alloc();

@@ -1,6 +1,6 @@
-//! What libnbd said and nbdkit answered, by tools/nbd_vectors.py: an export of 262,144 bytes, of zeros at first.
+//! What libnbd sent and nbdkit answered, by tools/nbd_vectors.py: an export of 262,144 bytes, of zeros at first.
 
-// A client that reads, writes, flushes and writes zeros, and asks for what is refused.
+// A client that reads, writes, flushes and writes zeros, and also asks for what is refused.
 pub(crate) const GOING: [&str; 2] = [
     "0000000349484156454f50540000000700000008000000000001000325609513000100010000000000000001000\
      00000000002000000000b00070e151c232a31383f46256095130000000000000000000000020000000000000200\
@@ -82,7 +82,7 @@ pub(crate) const GOING: [&str; 2] = [
      00000000000001867446698000000000000000000000019fc030a11",
 ];
 
-// A client that knows no fixed newstyle: it names its export, and takes the zeros.
+// A client without fixed newstyle: it names its export, and takes the zeros.
 pub(crate) const BY_NAME: [&str; 2] = [
     "0000000049484156454f50540000000100000000256095130000000100000000000000010000000000000200000\
      0001000070e151c232a31383f464d545b6269256095130000000000000000000000020000000000000200000000\
@@ -344,7 +344,7 @@ pub(crate) const REQUESTS: [(&str, u16, u16, u64, u64, u32); 25] = [
     ),
 ];
 
-// What answered them: the bytes, the number of the error, and the cookie.
+// The replies to `REQUESTS`: the bytes, the number of the error, and the cookie.
 pub(crate) const REPLIES: [(&str, u32, u64); 25] = [
     ("67446698000000000000000000000001", 0, 1),
     ("67446698000000000000000000000002", 0, 2),

@@ -1,5 +1,5 @@
 -- The client's side of the messages: the bytes of its own, and what it reads in the server's (the NBD project's
--- doc/proto.md). The laws say by these that each message is read back from its bytes.
+-- doc/proto.md). By these, the laws say that each message is read back from its bytes.
 use Rattle.std.specs.Prelude.{ℕ, ◌+◌, ◌^◌, ◌<◌, ◌==◌, ◌&&◌, Bool, true, false, List, ◌++◌, length, Option, Some, None, if◌then◌else◌}
 use Rattle.byteorder.specs.Endian.{big_bytes}
 use Rattle.nbd_words.specs.Negotiation.{big_number_at}
@@ -12,7 +12,7 @@ use Rattle.nbd_words.specs.declared.transmission.ReplyError.TheVariants as error
 
 -- ---- negotiation
 
--- the server's handshake flags, where it begins as one does
+-- the server's handshake flags, if it begins as a server does
 abbrev pub greeting_in : List ℕ → Option ℕ
 greeting_in bytes =
     if big_number_at bytes 0 8 == 0x4e42444d41474943 && big_number_at bytes 8 8 == 0x49484156454f5054 then Some (big_number_at bytes 16 2) else None
@@ -48,7 +48,7 @@ abbrev pub option_reply_in : List ℕ → Option OptionReplyHead
 option_reply_in bytes =
     if big_number_at bytes 0 8 == 0x3e889045565a9 then option_reply_with (big_number_at bytes 8 4) (option_reply_of (big_number_at bytes 12 4)) (big_number_at bytes 16 4) else None
 
--- what is told of an export: its size and its transmission flags
+-- what a client is told of an export: its size and its transmission flags
 pub record ToldExport : Type 0 where
   pub size : ℕ
   pub flags : ℕ
@@ -59,7 +59,7 @@ export_info_in bytes = if big_number_at bytes 0 2 == 0 then Some (record { size 
 abbrev pub plain_export_in : List ℕ → ToldExport
 plain_export_in bytes = record { size = big_number_at bytes 0 8; flags = big_number_at bytes 8 2 }
 
--- and how many bytes its requests have: the least, the preferred and the most
+-- how many bytes the requests to an export have: the least, the preferred and the most
 pub record BlockSizes : Type 0 where
   pub least : ℕ
   pub preferred : ℕ

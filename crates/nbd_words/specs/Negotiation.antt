@@ -82,6 +82,6 @@ export_info export = big_bytes 2 0 ++ (big_bytes 8 export.size ++ big_bytes 2 ex
 abbrev pub block_size_info : Export → List ℕ
 block_size_info export = big_bytes 2 3 ++ (big_bytes 4 1 ++ (big_bytes 4 export.preferred ++ big_bytes 4 export.most))
 
--- the answer to NBD_OPT_EXPORT_NAME
+-- the reply to NBD_OPT_EXPORT_NAME
 abbrev pub plain_export : Export → List ℕ
 plain_export export = big_bytes 8 export.size ++ (big_bytes 2 export.flags ++ replicate 124 0)

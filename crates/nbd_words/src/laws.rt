@@ -35,7 +35,7 @@ pub fn options_read_back()
     ensures { (h : OptionHead) → HasHeadInRange h → option_head_in (option_head h) ≡ Some h }
 {}
 
-/// The data of an option that asks for an export by any name, with any wishes, have their shape.
+/// The data of an option that asks for an export by any name, with any wishes, have the right shape.
 pub fn info_requests_fit()
     ensures { (name wishes : List ℕ) (count : ℕ) → length name < 256 ^ 4 → count < 256 ^ 2 → length wishes ≡ 2 * count
         → has_info_shape (info_request name count wishes) ≡ true }

@@ -4,8 +4,8 @@ ghost use Rattle.nbd_words.specs.Negotiation.{block_size_info, client_flags_in, 
 
 use byteorder::{BigEndian, ByteOrder};
 
-// The server's first bytes: `NBDMAGIC`, `IHAVEOPT`, and its handshake flags: fixed newstyle, and no zeros where the
-// client wants none.
+// The server's first bytes: `NBDMAGIC`, `IHAVEOPT`, and its handshake flags: fixed newstyle, and no zeros if the client
+// wants none.
 const GREETING: [u8; 18] = [
     0x4e, 0x42, 0x44, 0x4d, 0x41, 0x47, 0x49, 0x43, 0x49, 0x48, 0x41, 0x56, 0x45, 0x4f, 0x50, 0x54,
     0x00, 0x03,
@@ -52,13 +52,13 @@ pub enum OptionKind {
     List,
     /// `NBD_OPT_INFO`: what an export is.
     Info,
-    /// `NBD_OPT_GO`: the same, and to be served.
+    /// `NBD_OPT_GO`: what an export is, and to be served.
     Go,
     /// Anything else.
     Unknown,
 }
 
-/// What an option is answered with (doc/proto.md, "Option reply types").
+/// The replies to an option (doc/proto.md, "Option reply types").
 #[derive(Clone, Copy, Debug, PartialEq, Eq)]
 pub enum OptionReply {
     /// `NBD_REP_ACK`: it was done.
@@ -69,20 +69,20 @@ pub enum OptionReply {
     Info,
     /// `NBD_REP_ERR_UNSUP`: there is no such option here.
     Unsupported,
-    /// `NBD_REP_ERR_INVALID`: its data have not their shape.
+    /// `NBD_REP_ERR_INVALID`: the data of the option don't have the right shape.
     Invalid,
 }
 
 /// What a client is told of an export.
 #[derive(Clone, Copy, Debug, PartialEq, Eq)]
 pub struct Export {
-    /// Its bytes.
+    /// How many bytes it has.
     pub size: u64,
     /// Its transmission flags, as `transmission_flags` gives them.
     pub flags: u16,
-    /// The bytes that requests best have: a power of two.
+    /// The preferred number of bytes of a request, a power of two.
     pub preferred: u32,
-    /// The most bytes of a request.
+    /// The most bytes that a request may have.
     pub most: u32,
 }
 
@@ -164,8 +164,8 @@ pub fn option_reply_head(code: u32, reply: OptionReply, length: u32) -> [u8; 20]
     head
 }
 
-/// Whether the data of `NBD_OPT_INFO` or `NBD_OPT_GO` have their shape: a name with its length, and wishes of two bytes
-/// each with their number.
+/// Whether the data of `NBD_OPT_INFO` or `NBD_OPT_GO` have the right shape: the length of a name and the name, then the
+/// number of wishes and the wishes, of two bytes each.
 pub fn info_request_fits(bytes: &[u8]) -> bool
     ensures { result ≡ has_info_shape bytes.now }
 {
@@ -180,8 +180,8 @@ pub fn info_request_fits(bytes: &[u8]) -> bool
     bytes.len() - 6 - name == 2 * wishes
 }
 
-/// The transmission flags of an export: flushes, FUA and requests for zeros are served, and where it is read-only no
-/// writes.
+/// The transmission flags of an export: flushes, FUA and requests for zeros are served. If it is read-only, no writes
+/// are.
 pub fn transmission_flags(readonly: bool) -> u16
     ensures { result ≡ transmission_flags readonly }
 {
@@ -198,7 +198,7 @@ pub fn export_info(export: &Export) -> [u8; 12]
     info
 }
 
-/// The information `NBD_INFO_BLOCK_SIZE`: any request is served, of one byte too.
+/// The information `NBD_INFO_BLOCK_SIZE`: requests of any length are served, even of one byte.
 pub fn block_size_info(export: &Export) -> [u8; 14]
     ensures { result ≡ block_size_info export.now }
 {
@@ -210,7 +210,7 @@ pub fn block_size_info(export: &Export) -> [u8; 14]
     info
 }
 
-/// What is answered to `NBD_OPT_EXPORT_NAME`: size, flags and 124 zeros, which a client may do without.
+/// The reply to `NBD_OPT_EXPORT_NAME`: size, flags and 124 zeros, which a client may ask to leave out.
 pub fn plain_export(export: &Export) -> [u8; 134]
     ensures { result ≡ plain_export export.now }
 {

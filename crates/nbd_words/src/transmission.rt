@@ -23,9 +23,9 @@ pub struct Request {
     pub flags: u16,
     /// What is asked for, as `request_kind` says.
     pub code: u16,
-    /// What its reply is known by.
+    /// The number by which the client knows the reply.
     pub cookie: u64,
-    /// The first byte of the export that it speaks of.
+    /// The first byte of the export that the request is about.
     pub offset: u64,
     /// How many bytes.
     pub length: u32,
@@ -44,7 +44,7 @@ pub enum RequestKind {
     Flush,
     /// `NBD_CMD_WRITE_ZEROES`: a range gets zeros, and no bytes follow the request.
     WriteZeroes,
-    /// Anything else, as `NBD_CMD_TRIM`.
+    /// Anything else, such as `NBD_CMD_TRIM`.
     Unknown,
 }
 
@@ -55,7 +55,7 @@ pub enum ReplyError {
     Done,
     /// `NBD_EPERM`: the export is read-only.
     ReadOnly,
-    /// `NBD_EIO`: the disk failed, or a unit has another tag than its ciphertext.
+    /// `NBD_EIO`: the disk failed, or a unit has another tag than that of its ciphertext.
     Failed,
     /// `NBD_EINVAL`: the request isn't one that is served.
     Invalid,

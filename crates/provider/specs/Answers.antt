@@ -1,4 +1,4 @@
--- What the calls of a provider answer, each answer with its cause.
+-- What the calls of a provider return, each result with its cause.
 use Rattle.std.specs.Prelude.{◌≡◌, ℕ, ◌+◌, ◌*◌, ◌/◌, ◌<◌, ◌≤◌, Bool, true, false, ◌||◌, IsSome, List, [], length, Option, Some, None, Result, Ok, Err}
 use Rattle.block_traits.specs.Causes.{Counted}
 use Rattle.block_traits.specs.Disk.{DiskState, FailsIn, Logs}
@@ -27,7 +27,7 @@ pub record Target : Type 0 where
   pub params : Params
   pub disk : DiskState
 
--- with what: a user key, the slot that is named, and whether the provider is to be read-only
+-- what a provider is attached with: a user key, the slot that is named, and whether the provider is to be read-only
 pub record Means : Type 0 where
   pub key : List ℕ
   pub named : Option ℕ
@@ -50,13 +50,14 @@ pub record IsAttached {D : Type 0} (t : Target) (by : Means) (given : D) (p : At
 abbrev pub OpensToNone : Target → Means → Type 0
 OpensToNone t by = (s : ℕ) (master : List ℕ) → ¬ OpensAsNamed t.meta by.key by.named s master
 
--- why none is: the disk has no whole logical sector, no slot that is asked for opens, or else there was no memory
+-- why no provider is attached: the disk has no whole logical sector, no slot that is asked for opens, or else there was
+-- no memory
 abbrev pub AttachFails : Target → Means → AttachFault → Type 0
 AttachFails t by (attach.TooSmall size) = (target_media t ≡ 0) × (size ≡ 512 * t.disk.size)
 AttachFails t by attach.WrongKey = (1 ≤ target_media t) × (opened t.meta by.key by.named ≡ None) × OpensToNone t by
 AttachFails t by attach.NoMemory = (1 ≤ target_media t) × IsSome (opened t.meta by.key by.named)
 
--- the disk comes back with the fault
+-- what an attempt to attach returns: the provider, or the disk with the fault
 abbrev pub AttachAnswers : {D : Type 0} → Target → Means → D → Result (Attached D) (D × AttachFault) → Type 0
 AttachAnswers t by disk (Ok p) = IsAttached t by disk p
 AttachAnswers t by disk (Err refused) = (refused.0 ≡ disk) × AttachFails t by refused.1
@@ -100,13 +101,13 @@ pub record FindsFault (k : Keying) (r : SectorRequest) (offset : ℕ) (old new :
   pub in_range : IsInRange r
   pub finds : RunFault k r.sector r.count offset old new
 
--- a device call failed: nothing was logged, every unit of the request before the one that was to be read was
--- accepted, and none after it was read
+-- a device call failed: nothing was logged, every unit of the request before the one that was to be read was accepted,
+-- and none after it was read
 pub record FailsRead (k : Keying) (r : SectorRequest) (old new : DiskState) : Type 0 where
   pub in_range : IsInRange r
   pub fails : RunFails k r.sector r.count old new
 
--- what a read answers
+-- what a read returns
 abbrev pub ReadAnswers : {D : Type 0} → (D → DiskState) → SectorRequest → List ℕ → Attached D → Attached D → Result (Unit {0}) ReadFault → Type 0
 ReadAnswers state r bytes old new (Ok done) = IsRead old.keying r bytes (state old.disk) (state new.disk)
 ReadAnswers state r bytes old new (Err (read.OutOfRange sector count media)) = PassesEnd r sector count media × (new ≡ old)
@@ -123,7 +124,7 @@ pub record FailsWrite (k : Keying) (r : SectorRequest) (bytes : List ℕ) (old n
   pub in_range : IsInRange r
   pub fails : FailsIn (data_writes k r.sector r.count bytes) old new
 
--- what a write answers: a read-only provider refuses each one, whatever its range
+-- what a write returns: a read-only provider refuses each one, whatever its range
 abbrev pub WriteAnswers : {D : Type 0} → (D → DiskState) → SectorRequest → List ℕ → Attached D → Attached D → Result (Unit {0}) WriteFault → Type 0
 WriteAnswers state r bytes old new (Ok done) = (old.readonly ≡ false) × IsWritten old.keying r bytes (state old.disk) (state new.disk)
 WriteAnswers state r bytes old new (Err write.ReadOnly) = (old.readonly ≡ true) × (new ≡ old)

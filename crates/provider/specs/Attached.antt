@@ -43,8 +43,8 @@ has_tags Sha256 = true
 has_tags Sha384 = true
 has_tags Sha512 = true
 
--- the bytes of the buffer that a provider keeps, in which logical sectors are sealed: those of the device sectors of
--- as many as 32 KiB have room for, and of one at least
+-- the bytes of the buffer that a provider keeps, in which logical sectors are sealed: those of the device sectors of as
+-- many logical sectors as 32 KiB have room for, and of one at least
 abbrev pub buffer_bytes : Auth → ℕ → ℕ
 buffer_bytes auth sectorsize = let units = units_per_sector auth sectorsize in max 1 (64 / units) * (512 * units)
 

@@ -18,7 +18,7 @@ pub record SlotOpens (m : Metadata) (media : ℕ) (u : List ℕ) (named : Option
   pub opened : opened m u named ≡ Some (record { bytes = master }, slot)
   pub opens : OpensAsNamed m u named slot master
 
--- why none does: there is no room for a logical sector, or no slot that is asked for opens
+-- why no slot opens: there is no room for a logical sector, or no slot that is asked for opens
 abbrev pub SlotFails : Metadata → Params → List ℕ → Option ℕ → AttachFault → Type 0
 SlotFails m p u named (attach.TooSmall size) = (params_media p ≡ 0) × (size ≡ p.provsize)
 SlotFails m p u named attach.WrongKey =

@@ -10,7 +10,7 @@ abbrev pub standing : Content → ℕ → ℕ → List (List ℕ)
 standing c n zero = []
 standing c n (suc count) = present c n ∷ standing c (n + 1) count
 
--- they are these, where that is told
+-- so many device sectors from number n on are these, if the disk reports its content
 abbrev pub StandFrom : Option Content → ℕ → ℕ → List (List ℕ) → Type 0
 StandFrom None n count sectors = Unit {0}
 StandFrom (Some c) n count sectors = sectors ≡ standing c n count
@@ -28,11 +28,11 @@ abbrev pub sector_readings : Keying → Content → ℕ → ℕ → List (Result
 sector_readings k c sector zero = []
 sector_readings k c sector (suc count) = sector_reading k c sector ∷ sector_readings k c (sector + 1) count
 
--- their bytes one after the other, or the first fault among them
+-- the bytes of so many logical sectors one after the other, or the first fault among them
 abbrev pub data_reading : Keying → Content → ℕ → ℕ → Result (List ℕ) ℕ
 data_reading k c sector count = joined (sector_readings k c sector count)
 
--- so many logical sectors read as this, where that is told
+-- so many logical sectors read as this, if the disk reports its content
 abbrev pub ReadsFrom : Option Content → Keying → ℕ → ℕ → Result (List ℕ) ℕ → Type 0
 ReadsFrom None k sector count answer = Unit {0}
 ReadsFrom (Some c) k sector count answer = data_reading k c sector count ≡ answer

@@ -1,4 +1,4 @@
--- What an attached provider tells of itself in numbers, beside its disk.
+-- What an attached provider reports of itself in numbers, beside its disk.
 use Rattle.std.specs.Prelude.{ℕ, Bool, true, false, List, ◌∷◌}
 use Rattle.eli_base.specs.Algorithms.{auth_number, cipher_number}
 use Rattle.eli_base.specs.Keying.{Keying}

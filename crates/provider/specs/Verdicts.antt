@@ -6,8 +6,8 @@ use Rattle.eli_base.specs.Units.{unit_bytes_of}
 use Rattle.sealing.specs.Sectors.{unit_reading_at, units}
 use Rattle.provider.specs.declared.judged.Judged.{Judged}
 
--- whether the unit of a number among them is accepted, as the one that stands there; the first device sector has number
--- n
+-- whether the unit of a number among these device sectors is accepted, as the one that stands there; the first device
+-- sector has number n
 abbrev pub accepted_among : Keying → ℕ → List ℕ → ℕ → Bool
 accepted_among k n device m = is_ok (unit_reading_at k (n + m) (part 512 m device))
 
@@ -25,7 +25,7 @@ pub record Judges (k : Keying) (n : ℕ) (device : List ℕ) (judged : Judged) :
   pub within : 512 * judged.count ≤ length device
   pub each : (m : ℕ) → m < judged.count → verdict judged m ≡ accepted_among k n device m
 
--- the first of so many that is refused, or none of them is
+-- the first unit of so many that is refused, or none of them is
 abbrev pub IsFirstRefused : (ℕ → Bool) → ℕ → Option ℕ → Type 0
 IsFirstRefused accepted count None = (m : ℕ) → m < count → accepted m ≡ true
 IsFirstRefused accepted count (Some first) = (first < count) × (accepted first ≡ false) × ((m : ℕ) → m < first → accepted m ≡ true)

@@ -17,7 +17,7 @@ use std::alloc::Global;
 use user_key::UserKey;
 
 /// The master key, and the number of its slot, that a user key opens: of the named slot, or else of the first that
-/// opens. None exactly where the named slot doesn't open, or, where none is named, neither slot does.
+/// opens. None exactly if the named slot doesn't open, or, if none is named, neither slot does.
 pub fn opened(meta: &Metadata, key: &UserKey, named: Option<u8>) -> Option<(MasterKey, u8)>
     requires keylen { IsKeyBits meta.now.keylen }
     requires named { ForSome named (λ slot. slot < 2) }
@@ -43,8 +43,8 @@ pub struct OpenedSlot {
 /// Opens the slot of the metadata that is named, or else the first that the user key opens, for a provider with these
 /// parameters. They are those that `check` gave of the metadata, and the gate of slots let this slot through.
 ///
-/// In this order: `TooSmall`, exactly where the parameters leave no room for a whole logical sector; `WrongKey`,
-/// exactly where no slot that is asked for opens. Another fault never comes.
+/// There are two refusals, in this order: `TooSmall`, exactly if the parameters leave no room for a whole logical
+/// sector; `WrongKey`, exactly if no slot that is asked for opens.
 pub fn open_slot(
     meta: &Metadata,
     params: &Params,

@@ -22,7 +22,7 @@ impl Judged {
         self.accepted[m % self.rows][m / self.rows]
     }
 
-    // The first that isn't accepted.
+    // The first unit that isn't accepted.
     fn refused(&self) -> Option<usize>
         ensures { IsFirstRefused (verdict self.now) self.now.count result }
     {
@@ -35,7 +35,7 @@ impl Judged {
     }
 }
 
-// The unit in device sector `n`.
+// Checks the unit in device sector `n`.
 fn judge_one(ring: &KeyRing, n: u64, device: &[u8]) -> Judged
     requires on { ring.now.keying.auth ≢ Off }
     requires some { 512 ≤ length device.now }
@@ -53,7 +53,7 @@ fn judge_one(ring: &KeyRing, n: u64, device: &[u8]) -> Judged
     }
 }
 
-// Four whole units of one logical sector, the first in device sector `n`.
+// Checks four whole units of one logical sector, the first in device sector `n`.
 fn judge_four(ring: &KeyRing, n: u64, device: &[u8]) -> Judged
     requires on { ring.now.keying.auth ≢ Off }
     requires whole { HasWholeFour ring.now.keying n }
@@ -75,7 +75,7 @@ fn judge_four(ring: &KeyRing, n: u64, device: &[u8]) -> Judged
     }
 }
 
-// The units of four logical sectors, of which the first begins in device sector `n`. Each has ten units at most.
+// Checks the units of four logical sectors, of which the first begins in device sector `n`. Each has ten units at most.
 fn judge_four_sectors(ring: &KeyRing, n: u64, device: &[u8]) -> Judged
     requires on { ring.now.keying.auth ≢ Off }
     requires begins { n % units ring.now.keying ≡ 0 }
@@ -127,8 +127,8 @@ pub fn judge(ring: &KeyRing, n: u64, device: &[u8]) -> Judged
     judge_one(ring, n, device)
 }
 
-/// The first of some device sectors whose unit isn't accepted, by its number among them. They stand one after the
-/// other, the first of number `n`.
+/// Finds the first of some device sectors whose unit isn't accepted, and returns its place among them. They stand one
+/// after the other; the first has number `n`.
 pub fn first_refused(ring: &KeyRing, n: u64, device: &[u8]) -> Option<usize>
     requires on { ring.now.keying.auth ≢ Off }
     requires small { n + length device.now / 512 ≤ 2 ^ 44 }

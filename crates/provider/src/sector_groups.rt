@@ -14,8 +14,8 @@ use eli_base::Auth;
 use plain_sectors::open_plain;
 use range_keys::KeyRing;
 
-// How many groups of four are sealed side by side, of so many logical sectors. There are none without authentication,
-// and none where one sector has four whole units: these go side by side then.
+// How many groups of four logical sectors are sealed side by side, of so many. There are none without authentication,
+// and none if one sector has four whole units: those are then sealed side by side.
 fn groups_of_four(ring: &KeyRing, count: usize) -> usize
     ensures within { 4 * result ≤ count }
     ensures tagged { 0 < result → ring.now.keying.auth ≢ Off }
@@ -47,7 +47,7 @@ fn seal_groups(ring: &mut KeyRing, sector: u64, groups: usize, plain: &[u8], out
     }
 }
 
-// Seals some logical sectors from number `passed` of them on. Those before stand in `out`.
+// Seals some logical sectors from number `passed` of them on. Those before are already sealed in `out`.
 fn seal_each(ring: &mut KeyRing, sector: u64, passed: usize, plain: &[u8], out: &mut [u8])
     requires whole { length plain.now % ring.old.keying.sectorsize ≡ 0 }
     requires within { passed ≤ length plain.now / ring.old.keying.sectorsize }
@@ -83,8 +83,7 @@ pub fn seal_sectors(ring: &mut KeyRing, sector: u64, plain: &[u8], out: &mut [u8
     seal_each(ring, sector, 4 * groups, plain, out);
 }
 
-/// Opens logical sectors in place, the first of number `sector`, where there is no authentication. No bytes are
-/// refused.
+/// Opens logical sectors in place, the first of number `sector`, without authentication. No bytes are refused.
 pub fn open_in_place(ring: &mut KeyRing, sector: u64, into: &mut [u8])
     requires off { ring.old.keying.auth ≡ Off }
     requires whole { length into.old % ring.old.keying.sectorsize ≡ 0 }

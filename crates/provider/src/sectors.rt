@@ -1,4 +1,4 @@
-//! One logical sector, sealed in memory, and opened where all its units are accepted.
+//! One logical sector, sealed in memory, and opened if all its units are accepted.
 ghost use Rattle.std.specs.Prelude.{◌≡◌, ◌≢◌, ℕ, ◌+◌, ◌*◌, ◌^◌, ◌<◌, ◌≤◌, Ok, length, take, true};
 ghost use Rattle.block_traits.specs.Parts.{parts};
 ghost use Rattle.eli_base.specs.declared.algorithms.Auth.TheVariants.{Off};
@@ -12,7 +12,7 @@ use eli_base::Auth;
 use plain_sectors::seal_plain;
 use range_keys::KeyRing;
 
-// Seals the first units of one logical sector, so many times four, which are whole.
+// Seals the first units of one logical sector, all of them whole: `fours` times four.
 fn seal_fours(ring: &mut KeyRing, sector: u64, fours: usize, plain: &[u8], out: &mut [u8])
     requires on { ring.old.keying.auth ≢ Off }
     requires plain { length plain.now ≡ ring.old.keying.sectorsize }
@@ -42,7 +42,7 @@ fn seal_fours(ring: &mut KeyRing, sector: u64, fours: usize, plain: &[u8], out: 
     }
 }
 
-// Seals the units of one logical sector from number `passed` on. Those before stand in `out`.
+// Seals the units of one logical sector from number `passed` on. Those before are already sealed in `out`.
 fn seal_rest(ring: &mut KeyRing, sector: u64, passed: usize, plain: &[u8], out: &mut [u8])
     requires on { ring.old.keying.auth ≢ Off }
     requires plain { length plain.now ≡ ring.old.keying.sectorsize }
@@ -61,7 +61,7 @@ fn seal_rest(ring: &mut KeyRing, sector: u64, passed: usize, plain: &[u8], out: 
     }
 }
 
-// Seals one logical sector with authentication, whole units four at a time while there are four.
+// Seals one logical sector with authentication: whole units four at a time, then the rest one by one.
 fn seal_tagged_units(ring: &mut KeyRing, sector: u64, plain: &[u8], out: &mut [u8])
     requires on { ring.old.keying.auth ≢ Off }
     requires plain { length plain.now ≡ ring.old.keying.sectorsize }

@@ -29,7 +29,7 @@ const NONE: Calls = Calls {
     flushes: 0,
 };
 
-// A disk as large as `size`, which itself is never asked. It tells no content, answers each look, and notes each call.
+// A disk as large as `size`, which itself is never asked. It reports no content, grants each look, and notes each call.
 #[derive(Drop)]
 struct LookingDisk {
     size: MemDisk,
@@ -176,7 +176,7 @@ fn plain_runs(rt: HostRuntime) -> Result<(), Fail> {
     Ok(())
 }
 
-// With tags seven logical sectors fill the buffer: 64 device sectors, nine each. One look serves as many.
+// With tags seven logical sectors fill the buffer: 64 device sectors, nine for each. One look serves as many.
 #[test]
 fn tagged_runs(rt: HostRuntime) -> Result<(), Fail> {
     let mut watched = Watched::new(rt.alloc(), Auth::Sha256)?;

@@ -95,7 +95,7 @@ pub(crate) fn read<D: Disk>(
     Ok(provider.read(sector, into))
 }
 
-// Whether these were the events: writes of sectors by their numbers, and flushes where there is none.
+// Whether these were the events: a number stands for the write of that sector, and none for a flush.
 pub(crate) fn are_events(history: &[Event], expected: &[Option<u64>]) -> bool {
     history.len() == expected.len()
         && history.iter().zip(expected).all(|(event, number)| match event {

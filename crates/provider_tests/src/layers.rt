@@ -61,7 +61,7 @@ fn put<D: Disk>(disk: &mut D, n: u64, byte: u8) -> bool {
     n < disk.sectors() && disk.write(n, &[byte; 512]).is_ok()
 }
 
-// The byte that each byte of a sector is.
+// The value that all bytes of a sector have.
 fn byte_of<D: Disk>(disk: &mut D, n: u64) -> Option<u8> {
     let mut into = [0; 512];
     if n >= disk.sectors() || disk.read(n, &mut into).is_err() || into != [into[0]; 512] {
@@ -70,7 +70,7 @@ fn byte_of<D: Disk>(disk: &mut D, n: u64) -> Option<u8> {
     Some(into[0])
 }
 
-// Two writes may wait: a third one sends them below, and a flush what waits then.
+// Two writes may wait: a third one sends them below, and a flush sends what waits then.
 #[test]
 fn writes_wait(rt: HostRuntime) -> Result<(), Fail> {
     let alloc = rt.alloc();
@@ -167,7 +167,7 @@ fn a_provider_upon_a_provider(rt: HostRuntime) -> Result<(), Fail> {
     Ok(())
 }
 
-// Whether the first unit is B's and all after the next 16 bytes is A's.
+// Whether the first unit has B's bytes, and all after the 16 bytes that follow it has A's.
 fn is_mixed(bytes: &[u8]) -> bool {
     bytes.iter().enumerate().all(|(i, byte)| {
         if i < 512 {

@@ -3,7 +3,7 @@ use block_traits::Disk;
 use crash_disk::{CallKind, FailAt, MemDisk, Pick, Torn, survivor_torn, survivor_whole};
 use std::test::Fail;
 
-// What each byte of a sector is.
+// The value that all bytes of a sector have.
 fn byte_of(disk: &mut MemDisk, n: u64) -> Option<u8> {
     let mut bytes = [0; 512];
     if n >= disk.sectors() || disk.read(n, &mut bytes).is_err() || bytes != [bytes[0]; 512] {

@@ -37,7 +37,7 @@ fn a_disk_of_one_logical_sector(rt: HostRuntime) -> Result<(), Fail> {
     Ok(())
 }
 
-// Whether the fault of the second read is told, and all bytes are zeros then. What was read before opens.
+// Whether the fault of the second read is returned, and all bytes are zeros then, although the first unit was read.
 fn is_cleared(alloc: Global, auth: Auth) -> Result<bool, Fail> {
     let mut disk = MemDisk::new(alloc, 64, 64)?;
     let meta = made(alloc, &mut disk, (Cipher::AesXts, auth, 512), 0x5a)?;

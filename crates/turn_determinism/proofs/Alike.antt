@@ -1,4 +1,4 @@
--- What a line reaches in one of two turns and in the other: alike in all that is told.
+-- What a line reaches in one of two turns and in the other: alike in all that is reported.
 use Rattle.std.proofs.Common.{◌≡◌, ◌∙◌, ℕ, ◌≤◌, List, ◌++◌, length, take, drop, ap, sym, subst, arith, Option, None, Some}
 use Rattle.std.specs.Io.KnownBytes.{prepend_known}
 use Rattle.std.proofs.Math.Seq.{drop-append_seam, take-append_seam}
@@ -20,7 +20,7 @@ unrisen n m later quiet = omega (arith, later, quiet)
 
 -- ---- disks
 
--- both disks tell the same content
+-- both disks report the same content
 pub record AlikeDisk (d d' : DiskState) : Type 0 where
   pub content : Content
   pub told : d.content ≡ Some content
@@ -46,7 +46,7 @@ logs_alike events d d' e e' same logs logs' reads = record {
   reads = reads;
 }
 
--- what is read of a disk that tells its content
+-- what is read of a disk that reports its content
 pub given_by : (d : DiskState) (c : Content) (n : ℕ) (bytes : List ℕ) → d.content ≡ Some c → Gives d n bytes → bytes ≡ present c n
 given_by d c n bytes told given = let P : Option Content → Type 0 = λ o. GivesFrom o n bytes in subst P told given
 
@@ -72,7 +72,7 @@ taken_by size random left e f told long takes =
     let P : ℕ → Type 0 = λ n. (random ≡ take n left) × (f.left ≡ Some (drop n left)) in
     subst P long (drawn random left f.left (sym told ∙ takes.taken))
 
--- as many random bytes are taken, so the same
+-- as many random bytes are taken, so they are the same
 pub takes_same : (size : ℕ) (random random' : List ℕ) (e e' f f' : EntropyState) → AlikeEntropy e e' → length random ≡ size → length random' ≡ size → Takes random e f → Takes random' e' f' → random' ≡ random
 takes_same size random random' e e' f f' same long long' takes takes' =
     (taken_by size random' same.left e' f' same.told' long' takes').0 ∙ sym (taken_by size random same.left e f same.told long takes).0

@@ -42,13 +42,13 @@ events_later events old (Ok done) new h = h.faults
 events_later events old (Err refusals.DeviceFault) new h = h.logs.faults
 events_later events old (Err refusal) new h = absurd h
 
--- all are logged, where the disk doesn't fail
+-- all events are logged, if the disk doesn't fail
 events_done : (events : List Event) (old : DiskState) (answer : Result (Unit {0}) Refusal) (new : DiskState) → ¬ Rose old.faults new.faults → DoesEvents events old answer new → (answer ≡ Ok tt) × Logs events old new
 events_done events old (Ok done) new quiet h = (refl, h)
 events_done events old (Err refusals.DeviceFault) new quiet h = absurd (quiet h.rose)
 events_done events old (Err refusal) new quiet h = absurd h
 
--- disks that do the same events, and of which nothing is read, answer the same and stay alike
+-- disks that do the same events, and of which nothing is read, return the same and stay alike
 events_alike : (events : List Event) (d d' : DiskState) (answer answer' : Result (Unit {0}) Refusal) (e e' : DiskState) → AlikeDisk d d' → ¬ Rose d.faults e.faults → ¬ Rose d'.faults e'.faults
     → DoesEvents events d answer e → DoesEvents events d' answer' e' → e.reads ≡ d.reads → e'.reads ≡ d'.reads → (answer' ≡ answer) × AlikeDisk e e'
 events_alike events d d' answer answer' e e' same quiet quiet' h h' unasked unasked' =
@@ -90,7 +90,7 @@ suspends_sure a = record {
 
 -- ---- the disk is read
 
--- the answer is the same of disks that are alike, where none fails, and so is what is read of them
+-- the result is the same of disks that are alike, if none fails, and so is what is read of them
 abbrev pub ReadsAlike : {A : Type 0} → (DiskState → Result A Refusal → DiskState → Type 0) → Type 0
 ReadsAlike {A} Answers =
     (d d' : DiskState) (answer answer' : Result A Refusal) (e e' : DiskState) → AlikeDisk d d' → ¬ Rose d.faults e.faults → ¬ Rose d'.faults e'.faults → Answers d answer e → Answers d' answer' e' → (answer' ≡ answer) × AlikeDisk e e'
@@ -105,7 +105,7 @@ reads_sure {A} {Answers} later alike = record {
 
 -- ---- a device sector is read
 
--- the answer is made of the bytes of the device sector of this number, which is read once
+-- the result is made of the bytes of the device sector of this number, which is read once
 record AnswersSector {X : Type 0} (place : ℕ) (found : List ℕ → X) (c : Content) (d : DiskState) (answer : X) (e : DiskState) : Type 0 where
   is : answer ≡ found (present c place)
   logs : Logs [] d e
@@ -131,13 +131,13 @@ reads_device_sector_sure place =
     reads_sure (bytes_later place)
     (λ d d' answer answer' e e' same quiet quiet' h h'. sector_alike place place _ d d' answer answer' e e' same refl (bytes_are place d same.content answer e same.told quiet h) (bytes_are place d' same.content answer' e' same.told' quiet' h'))
 
--- the image is too small, which its size in bytes tells, and nothing is read
+-- the image is too small, which its size in bytes says, and nothing is read
 record AnswersSmall {X : Type 0} (small : ℕ → X) (d : DiskState) (answer : X) (e : DiskState) : Type 0 where
   few : d.size + 1 ≤ 2
   is : answer ≡ small (512 * d.size)
   unchanged : e ≡ d
 
--- or the last sector is read
+-- the last sector is read
 record AnswersLast {X : Type 0} (found : List ℕ → X) (c : Content) (d : DiskState) (answer : X) (e : DiskState) : Type 0 where
   enough : 2 ≤ d.size
   sector : AnswersSector (last_sector d) found c d answer e

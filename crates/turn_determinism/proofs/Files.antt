@@ -27,7 +27,7 @@ cabinet_alike old old' new new' same cabinet disk disk' holding holding' entropy
 
 -- ---- what is loaded
 
--- what is answered of files that are told, but for a fault of the cabinet and want of memory
+-- what is returned of files that are reported, but for a fault of the cabinet and want of memory
 answer_is : {A : Type 0} (expected answer : Result A Refusal) → HasMemory answer → ((word : ℕ) → answer ≢ Err (refusals.CabinetFault word)) → IsAnswer expected answer → answer ≡ expected
 answer_is expected (Ok value) memory unfailed h = h
 answer_is expected (Err (refusals.CabinetFault word)) memory unfailed h = absurd (unfailed word refl)
@@ -55,7 +55,7 @@ file_unfailed limit old new answer quiet h word is =
     let P : Result (List ℕ) Refusal → Type 0 = λ r. IfErr r (MayRefuse limit old new) in
     quiet (subst P is h)
 
--- what a refusal of a file says of the loads, where the cabinet doesn't fail and there is memory
+-- what a refusal of a file says of the loads, if the cabinet doesn't fail and there is memory
 missed_by : (limit : ℕ) (old new : CabinetState) (refusal : Refusal) (c c' : CabinetState) → refusal ≢ refusals.NoMemory → ¬ Rose old.faults new.faults → MayRefuse limit old new refusal → LoadsUnlessMissed refusal c c'
 missed_by limit old new (refusals.CabinetFault word) c c' memory quiet h = absurd (quiet h)
 missed_by limit old new (refusals.FileAbsent word) c c' memory quiet h = tt

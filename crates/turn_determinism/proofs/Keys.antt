@@ -28,7 +28,7 @@ drawing_settled old old' answer answer' new new' both agrees disk entropy holdin
     })
     (λ on. same_loads old old' new new' (both.loads on) cabinet cabinet')
 
--- the last sector gets the same metadata, where the disks have the same size
+-- the last sector gets the same metadata, if the disks have the same size
 replaced_same : (d d' : DiskState) (m m' : Metadata) → d'.size ≡ d.size → m' ≡ m → replace_events d' m' ≡ replace_events d m
 replaced_same d d' m m' size is = rw (size, is) refl
 
@@ -69,7 +69,7 @@ record InitDone (options : InitOptions) (parts : Components) (d : DiskState) (e 
   logs : Logs (init_events d m) d d'
   unasked : d'.reads ≡ d.reads
 
--- it is refused, and nothing is done
+-- making a provider is refused, and nothing is done
 record InitRefused (options : InitOptions) (parts : Components) (d : DiskState) (e : EntropyState) (made : Result Metadata Refusal) (d' : DiskState) (e' : EntropyState) : Type 0 where
   refusal : Refusal
   is : made ≡ Err refusal

@@ -23,7 +23,7 @@ use Rattle.turn_determinism.proofs.Places
 use Rattle.turn_determinism.proofs.Rows
 use Rattle.turn_determinism.proofs.Steps.{Both, HasMemory, ResultLoads, Step, Sure, then_sure, unless_missed}
 
--- both lines have the same answer, what they reach is alike, and as many files were loaded, unless one is refused
+-- both lines have the same reply, what they reach is alike, and as many files were loaded, unless one is refused
 pub record SameLine (counts : Bool) (reply reply' : Answer) (new new' : Reach) : Type 0 where
   pub agrees : reply' ≡ reply
   pub same : Alike new new'
@@ -43,7 +43,7 @@ reply_loads answer_to (Err refusal) reply c c' replying is same = loads_refused 
 row_memory : {A : Type 0} (answer_to : Result A Refusal → Answer) (answer : Result A Refusal) (reply : Answer) → Replying answer_to → reply ≡ answer_to answer → quiet.HasMemory reply → HasMemory answer
 row_memory answer_to answer reply replying is memory none = memory (is ∙ ap answer_to none ∙ replying.refusal refusals.NoMemory)
 
--- two turns by a relation have one answer, and leave what is reached alike
+-- two turns by a relation have one reply, and leave what is reached alike
 abbrev AreOne : (Reach → Answer → Reach → Type 0) → Type 0
 AreOne R =
     (old old' : Reach) (reply reply' : Answer) (new new' : Reach) → (both : Both old old' new new') → quiet.HasMemory reply → quiet.HasMemory reply' → R old reply new → R old' reply' new' → SameLine both.counts reply reply' new new'
@@ -57,7 +57,7 @@ replies_one {A} {answer_to} {Row} replying sure old old' reply reply' new new' b
       loads = λ on. reply_loads answer_to h.answer reply new.cabinet new'.cabinet replying h.replied (s.loads on);
     }
 
--- ---- by what the drawer does with its disk
+-- ---- lines by what the drawer does with its disk
 
 found_one : {X A : Type 0} (answer_to : Result A Refusal → Answer) (Row : X → Step A) → Replying answer_to → ((x : X) → Sure (Row x)) → (found : Option X) → AreOne (λ old reply new. MatchOption found ⊥ (λ x. Replies answer_to (Row x) old reply new))
 found_one answer_to Row replying sure None old old' reply reply' new new' both memory memory' h h' = absurd h
@@ -77,7 +77,7 @@ suspended_one {A} {answer_to} {Row} replying sure old old' reply reply' new new'
 
 ruleset replies = (digest_replying, done_replying, dump_replying, left_replying, payload_replying, reaped_replying, tag_replying, verified_replying)
 
--- of a row that is one of these, or that is `Then` of them and defined without its arguments, `search` finds it
+-- for a row that is one of these, or that is `Then` of them and defined without its arguments, `search` finds the proof
 ruleset steps = (
   then_sure,
   Deciding.decides_sure,

@@ -43,7 +43,7 @@ passes_same there (jobs.Read first many) sector count end sector' count' end' h 
 passes_same there (jobs.Write first many) sector count end sector' count' end' h h' = rw (h.1, h.2, h.3, h'.1, h'.2, h'.3) refl
 passes_same there jobs.Flush sector count end sector' count' end' h h' = absurd h
 
--- both are taken, or both are refused so
+-- both jobs are taken, or both are refused for the same reason
 AgreeBut : Result ℕ SubmitFault → Result ℕ SubmitFault → Type 0
 AgreeBut (Ok tag) (Ok tag') = Unit {0}
 AgreeBut (Ok tag) (Err fault) = ⊥
@@ -81,7 +81,7 @@ least_same queue tag tag' h h' =
     let no' : tag' < tag → ⊥ = λ lt. let none : false ≡ true = subst P h'.free (h.least tag' lt) in cc none in
     omega (arith, no, no')
 
--- the queue after it
+-- the queue after a job was submitted
 QueueIs : Keying → Job → List ℕ → List Request → List Request → Result ℕ SubmitFault → Type 0
 QueueIs k job from old new (Ok tag) = IsLeastFree tag old × (new ≡ put_in (asked k tag job from) old)
 QueueIs k job from old new (Err fault) = new ≡ old
@@ -188,7 +188,7 @@ record StepsNone (old new : List Request) (d e : DiskState) (left : Result ℕ S
   queue : new ≡ old
   disk : e ≡ d
 
--- by the request with the tag
+-- what a step does, by the request with the tag
 StepIs : Option Request → List Request → List Request → DiskState → DiskState → Result ℕ StepFault → Type 0
 StepIs None old new d e left = StepsNone old new d e left step.NoRequest
 StepIs (Some r) old new d e left = StepsSo r old new d e left ⊎ ((left_of r ≡ 0) × StepsNone old new d e left step.AllDone)
@@ -251,7 +251,7 @@ steps_request_sure a tag = record {
 
 -- ---- reaping
 
--- what a request that is done answers
+-- what a request that is done returns
 as_read : Result (List ℕ) ℕ → Result (Option (List ℕ)) Refusal
 as_read (Ok bytes) = Ok (Some bytes)
 as_read (Err offset) = Err (refusals.Integrity offset)
@@ -285,7 +285,7 @@ record ReapsSo (k : Keying) (tag : ℕ) (r : Request) (old new : List Request) (
   is : answer ≡ as_reaped k r.job r.device
   queue : new ≡ without tag old
 
--- some of its units are left
+-- some units of the request are left
 record ReapsLater (tag : ℕ) (r : Request) (old new : List Request) (answer : Result (Option (List ℕ)) Refusal) : Type 0 where
   some : 1 ≤ left_of r
   is : answer ≡ Err (refusals.RequestNotDone tag (left_of r))
@@ -295,7 +295,7 @@ record ReapsNone (tag : ℕ) (old new : List Request) (answer : Result (Option (
   is : answer ≡ Err (refusals.NoRequest tag)
   queue : new ≡ old
 
--- by the request with the tag
+-- what reaping does, by the request with the tag
 ReapIs : Keying → ℕ → Option Request → List Request → List Request → Result (Option (List ℕ)) Refusal → Type 0
 ReapIs k tag None old new answer = ReapsNone tag old new answer
 ReapIs k tag (Some r) old new answer = ReapsSo k tag r old new answer ⊎ ReapsLater tag r old new answer

@@ -52,7 +52,7 @@ attachment_settles : {A : Type 0} (Idly : Step A) (With : Attachment → Step A)
 attachment_settles Idly With idly with None old old' answer answer' new new' both memory memory' h h' = idly.settles old old' answer answer' new new' both memory memory' h h'
 attachment_settles Idly With idly with (Some a) old old' answer answer' new new' both memory memory' h h' = (with a).settles old old' answer answer' new new' both memory memory' h h'
 
--- by what is attached
+-- a step that depends on what is attached does one thing
 by_attachment_sure : {A : Type 0} (Idly : Step A) (With : Attachment → Step A) → Sure Idly → ((a : Attachment) → Sure (With a)) → Sure (λ old answer new. MatchOption (attachment_in old.holding) (Idly old answer new) (λ a. With a old answer new))
 by_attachment_sure {A} Idly With idly with =
     let Is : Option Attachment → Reach → Result A Refusal → Reach → Type 0 = λ o old answer new. MatchOption o (Idly old answer new) (λ a. With a old answer new) in

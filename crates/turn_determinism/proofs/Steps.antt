@@ -40,7 +40,7 @@ same_entropy_later e f is = rw is (omega arith)
 pub same_disk_later : (d e : DiskState) → e ≡ d → d.faults ≤ e.faults
 same_disk_later d e is = rw is (omega arith)
 
--- what fails nowhere fails nowhere in its front, nor after that
+-- a count that didn't rise didn't rise in the first part either, nor after it
 quiet_front : (before between now : ℕ) → between ≤ now → ¬ Rose before now → ¬ Rose before between
 quiet_front before between now later quiet rose = quiet (omega (arith, later, rose))
 
@@ -79,7 +79,7 @@ abbrev pub ResultLoads : {A : Type 0} → Result A Refusal → CabinetState → 
 ResultLoads (Ok value) c c' = IsSameCount c.loads c'.loads
 ResultLoads (Err refusal) c c' = LoadsUnlessMissed refusal c c'
 
--- both steps have the same answer, and what they reach is alike; as many files were loaded, unless one is refused
+-- both steps have the same result, and what they reach is alike; as many files were loaded, unless one is refused
 pub record Settled (counts : Bool) {A : Type 0} (answer answer' : Result A Refusal) (new new' : Reach) : Type 0 where
   pub agrees : answer' ≡ answer
   pub same : Alike new new'
@@ -97,7 +97,7 @@ pub record Sure {A : Type 0} (S : Step A) : Type 0 where
   pub goes : Goes S
   pub settles : Settles S
 
--- as many files were loaded, where that is known of any answer
+-- as many files were loaded, if that is known of any result
 pub unless_missed : (refusal : Refusal) (c c' : CabinetState) → IsSameCount c.loads c'.loads → LoadsUnlessMissed refusal c c'
 unless_missed (refusals.FileAbsent word) c c' same = tt
 unless_missed (refusals.FileTooLong word limit) c c' same = tt
@@ -110,7 +110,7 @@ loads_where (Err refusal) c c' same = unless_missed refusal c c' same
 pub settled : (counts : Bool) {A : Type 0} (answer answer' : Result A Refusal) (new new' : Reach) → answer' ≡ answer → Alike new new' → (counts ≡ true → IsSameCount new.cabinet.loads new'.cabinet.loads) → Settled counts answer answer' new new'
 settled counts answer answer' new new' agrees same loads = record { agrees = agrees; same = same; loads = λ on. loads_where answer new.cabinet new'.cabinet (loads on) }
 
--- nothing changes, and the answer is the same
+-- nothing changes, and the result is the same
 pub settled_still : {A : Type 0} (old old' : Reach) (answer answer' : Result A Refusal) (new new' : Reach) → (both : Both old old' new new') → answer' ≡ answer → new ≡ old → new' ≡ old' → Settled both.counts answer answer' new new'
 settled_still old old' answer answer' new new' both agrees is is' =
     settled both.counts answer answer' new new' agrees (still_alike old old' new new' both.same is is')

@@ -1,4 +1,4 @@
--- Lines in which nothing outside fails, and no memory lacks.
+-- Lines in which nothing outside fails, and no memory is lacking.
 use Rattle.std.specs.Prelude.{◌≡◌, ◌≢◌, ℕ, List, IfSome}
 use Rattle.command_rows.specs.Rows.{Answer, DrawerState, World}
 use Rattle.command_rows.specs.Vocabulary.{Command, Rose, bytes_at, provider_of}
@@ -6,7 +6,7 @@ use Rattle.eli_base.specs.declared.refusals.Refusal.TheVariants as refusals
 use Rattle.command_rows.specs.Answer as answers
 use Rattle.turn_determinism.specs.Places.{IsNamedAt, StandsAt}
 
--- the count of faults of the disk of the drawer with this name didn't rise, if the drawer is in its place still
+-- the count of faults of the disk of the drawer with this name didn't rise, if the drawer is still in its place
 abbrev pub StaysQuietAt : List ℕ → World → World → Type 0
 StaysQuietAt name old new =
     (place : ℕ) (before after : DrawerState) → IsNamedAt name old place before → StandsAt new place after
@@ -19,6 +19,6 @@ pub record IsQuiet (line : List ℕ) (command : Command) (old new : World) : Typ
   pub cabinet : ¬ Rose old.cabinet.faults new.cabinet.faults
   pub entropy : ¬ Rose old.entropy.faults new.entropy.faults
 
--- it isn't want of memory
+-- the reply isn't want of memory
 abbrev pub HasMemory : Answer → Type 0
 HasMemory answer = answer ≢ answers.Refused refusals.NoMemory

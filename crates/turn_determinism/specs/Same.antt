@@ -23,8 +23,8 @@ pub record IsSameDrawer (drawer drawer' : DrawerState) : Type 0 where
   pub disk : IsSameDisk drawer.disk drawer'.disk
   pub holding : drawer'.holding ≡ drawer.holding
 
--- two cabinets have the same files and faults, and as many stores. `LoadsAsMany` speaks of how often files were loaded;
--- nothing speaks of how often one was absent or too long.
+-- two cabinets have the same files and faults, and as many stores; `LoadsAsMany` says how often files were loaded, and
+-- nothing says how often one was absent or too long
 pub record IsSameCabinet (cabinet cabinet' : CabinetState) : Type 0 where
   pub files : cabinet'.files ≡ cabinet.files
   pub faults : cabinet'.faults ≡ cabinet.faults
@@ -59,7 +59,7 @@ abbrev pub LoadsAsMany : Answer → CabinetState → CabinetState → Type 0
 LoadsAsMany (answers.Refused refusal) cabinet cabinet' = LoadsUnlessMissed refusal cabinet cabinet'
 LoadsAsMany answer cabinet cabinet' = IsSameCount cabinet.loads cabinet'.loads
 
--- two turns have the same answer and leave the same world; and as many files were loaded, if so many were before
+-- two turns have the same reply and leave the same world; and as many files were loaded, if so many were before
 pub record IsSameTurn (old : World) (answer : Answer) (new : World)
     (old' : World) (answer' : Answer) (new' : World) : Type 0 where
   pub answered : answer' ≡ answer

@@ -1,6 +1,6 @@
-//! Two turns of one line from one world are the same, where nothing outside fails.
+//! Two turns of one line from one world are the same, if nothing outside fails.
 //!
-//! The definitions stand in `specs/`; the function here is a law: it has an empty body, and its contract holds of any
+//! The definitions stand in `specs/`. Each function here is a law: it has an empty body, and its contract holds of any
 //! worlds.
 #![tactic(auto)]
 

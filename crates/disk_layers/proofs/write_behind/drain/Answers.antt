@@ -1,4 +1,4 @@
--- One more was written, or refused and put back.
+-- One more write was done below, or refused and put back.
 use Rattle.std.proofs.Common.{◌<◌, ℕ, List, ◌∙◌, arith, subst, sym}
 use Rattle.std.proofs.lemmas.List.Elements.{All-tail}
 use Rattle.disk_layers.specs.declared.write_behind.Waiting.{Waiting}

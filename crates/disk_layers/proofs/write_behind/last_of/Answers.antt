@@ -1,4 +1,4 @@
--- One more was looked at.
+-- One more write was looked at.
 use Rattle.disk_layers.proofs.WaitingLemmas.{found_here, found_before}
 use Rattle.disk_layers.proofs.write_behind.last_of.Goals as goal
 

@@ -1,4 +1,4 @@
--- What was found is the last of those that were looked at.
+-- What was found is the last of the writes of the sector that were looked at.
 use Rattle.std.proofs.Common.{◌≡◌, map}
 use Rattle.disk_layers.specs.Waiting.{last_waiting}
 use Rattle.disk_layers.proofs.write_behind.last_of.Given as goal

@@ -1,4 +1,4 @@
--- What the name is cut into decides.
+-- The folder of a name is decided by what the name is cut into.
 use Rattle.std.proofs.Common.{inl, inr, refl, subst, Bor, List, ℕ, MatchOption, Option}
 use Rattle.file_edge.specs.Folder.{HasNoSlash}
 use Rattle.file_edge.proofs.Folder.{IsCut, cut_once, of_front, of_root}

@@ -9,7 +9,7 @@ asked : (request : FileRequest) (was failed is : Bool) (old new : Option (List A
     → new ≡ more (asking request was) old → new ≡ more (asking request (not is)) old
 asked request was failed is old new answer test log = log ∙ ap (λ (b : Bool). more (asking request b) old) (answer ∙ ap not test)
 
--- whether it was done
+-- whether a request was done
 done_by : (was failed is : Bool) → was ≡ not failed → failed ≡ is → was ≡ not is
 done_by was failed is answer test = answer ∙ ap not test
 

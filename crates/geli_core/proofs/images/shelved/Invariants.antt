@@ -4,8 +4,8 @@ use Rattle.geli_core.specs.Images.{disks_of, idle_drawers}
 use Rattle.geli_core.specs.Vocabulary.{drawers_of}
 use Rattle.geli_core.proofs.images.shelved.Given as goal
 
--- with the disks that are left under the names that are left it would have them all, and there are as many of these as
--- of those; no two have one name, and no disk was lost
+-- with the disks that are left, under the names that are left, the shelf would have them all; there are as many disks
+-- left as names; no two have one name, and no disk was lost
 abbrev pub invariant-loop-name : goal.invariant-loop-name
 invariant-loop-name g l =
     let state = g.D.Disk.state in

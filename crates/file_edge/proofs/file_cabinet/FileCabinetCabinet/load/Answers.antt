@@ -1,4 +1,4 @@
--- What is loaded is what is told of the name.
+-- What is loaded is what is reported of the name.
 use Rattle.file_edge.proofs.Cabinet.{named_gives}
 use Rattle.file_edge.proofs.file_cabinet.FileCabinetCabinet.load.Goals as goal
 

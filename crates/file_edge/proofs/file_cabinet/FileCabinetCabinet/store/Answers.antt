@@ -1,4 +1,4 @@
--- A file that is stored is told under its name.
+-- A file that is stored is reported under its name.
 use Rattle.file_edge.proofs.Cabinet.{stored_files}
 use Rattle.file_edge.proofs.file_cabinet.FileCabinetCabinet.store.Goals as goal
 

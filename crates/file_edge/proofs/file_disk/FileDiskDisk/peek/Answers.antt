@@ -1,4 +1,4 @@
--- A look at a file that tells shows what its disk tells, and leaves it so.
+-- A look at a file that reports its sectors shows what its disk reports, and leaves it so.
 use Rattle.std.proofs.Common.{◌≡◌, length, ap, rules, arith}
 use Rattle.file_edge.specs.Told.{of_size, told_in}
 use Rattle.file_edge.proofs.Same.{state-same}

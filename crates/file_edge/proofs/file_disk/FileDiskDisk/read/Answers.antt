@@ -1,4 +1,4 @@
--- What is read of a file that tells is what its disk tells.
+-- What is read of a file that reports its sectors is what its disk reports.
 use Rattle.std.proofs.Common.{[], refl, arith, rules}
 use Rattle.file_edge.specs.Told.{told_in}
 use Rattle.file_edge.proofs.Telling.{fails_same, gives_told, logs_same}

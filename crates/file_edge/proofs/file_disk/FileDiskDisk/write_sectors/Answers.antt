@@ -1,4 +1,4 @@
--- What a write of sectors leaves of a file that tells is logged by its disk.
+-- What a write of sectors leaves of a file that reports its sectors is logged by its disk.
 use Rattle.std.proofs.Common.{refl, arith}
 use Rattle.block_traits.specs.Disk.{write_events}
 use Rattle.file_edge.proofs.Telling.{fails_left, logs_left, same_events}

@@ -105,7 +105,7 @@ AsksReads (Read sector count) old new = Counted 1 old.reads new.reads
 AsksReads (Write sector count) old new = new.reads ≡ old.reads
 AsksReads Flush old new = new.reads ≡ old.reads
 
--- the bytes that a unit of a read is given are what stands in its device sector, if the disk tells its sectors
+-- the bytes that a unit of a read is given are what stands in its device sector, if the disk reports its sectors
 abbrev pub IsGiven : DiskState → Job → ℕ → List ℕ → Type 0
 IsGiven d (Read sector count) n bytes = Gives d n bytes
 IsGiven d (Write sector count) n bytes = Unit {0}
@@ -139,7 +139,7 @@ pub record IsAllDone (tag : ℕ) (old : List Request) : Type 0 where
   pub found : request_with tag old ≡ Some request
   pub none : left_of request ≡ 0
 
--- what a step returns: `before` and `after` are what the disk tells of itself
+-- what a step returns: `before` and `after` are what the disk reports of itself
 abbrev pub StepAnswers : ℕ → List Request → List Request → DiskState → DiskState → Result ℕ StepFault → Type 0
 StepAnswers tag old new before after (Ok left) = StepsOn tag left old new before after
 StepAnswers tag old new before after (Err step.NoRequest) = (request_with tag old ≡ None) × (new ≡ old) × (after ≡ before)

@@ -1,4 +1,4 @@
--- What a disk tells fits in one way at most, for the ghost field of a disk that keeps this.
+-- What a disk reports fits in one way at most, for the ghost field of a disk that keeps this.
 use Rattle.std.specs.Coded.{Unit-prop}
 use Rattle.std.proofs.Common.{ℕ}
 use Rattle.std.proofs.Props.{props}

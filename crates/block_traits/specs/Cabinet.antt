@@ -13,7 +13,7 @@ Files = List ℕ → Option (List ℕ)
 abbrev pub with_file : List ℕ → List ℕ → Files → Files
 with_file name bytes files other = if bytes_eq other name then Some bytes else files other
 
--- the files of a cabinet with one made or replaced, if it tells its files
+-- the files of a cabinet with one made or replaced, if it reports its files
 abbrev pub stored : List ℕ → List ℕ → Option Files → Option Files
 stored name bytes told = option_map (with_file name bytes) told
 
@@ -28,13 +28,13 @@ Answers answer (Err load.Failed) = Unit {0}
 Answers answer (Err load.NoMemory) = Unit {0}
 Answers answer result = result ≡ answer
 
--- what a load may return, if the cabinet tells its files
+-- what a load may return, if the cabinet reports its files
 abbrev pub LoadGives : Option Files → List ℕ → ℕ → Result (List ℕ) LoadFault → Type 0
 LoadGives None name limit result = Unit {0}
 LoadGives (Some files) name limit result = Answers (load_answer (files name) limit) result
 
--- a cabinet by its files, if it tells them, how often it failed, how often a file was absent or too long, and how often
--- it was asked to load one, and to store one
+-- a cabinet by its files, if it reports them, how often it failed, how often a file was absent or too long, and how
+-- often it was asked to load one, and to store one
 pub record CabinetState : Type 0 where
   pub files : Option Files
   pub faults : ℕ

@@ -44,7 +44,7 @@ at_moment moment c = record { base = c.base; history = take moment c.history }
 abbrev pub with_events : List Event → Content → Content
 with_events events c = record { base = c.base; history = c.history ++ events }
 
--- a content with more events, if it is told
+-- a content with more events, if it is reported
 abbrev pub logged : List Event → Option Content → Option Content
 logged events told = option_map (with_events events) told
 

@@ -1,4 +1,4 @@
--- What a disk tells of itself, and what a call of it does.
+-- What a disk reports of itself, and what a call of it does.
 use Rattle.std.specs.Prelude.{◌≡◌, ℕ, ◌+◌, ◌<◌, ◌≤◌, ◌-◌, ◌/◌, ◌^◌, List, [], ◌∷◌, length, take, Option, Some, None, Bool, true, false, IsTrue, IsSome}
 use Rattle.block_traits.specs.Causes.{Rose}
 use Rattle.block_traits.specs.Content.{Content, IsContentOf, logged, present}
@@ -6,18 +6,18 @@ use Rattle.block_traits.specs.Parts.{part, parts}
 use Rattle.block_traits.specs.declared.disk.Event.{Event}
 use Rattle.block_traits.specs.declared.disk.Event.TheVariants.{Write, Flush}
 
--- a content that is told fits the size
+-- a content that is reported fits the size
 abbrev pub FitsSize : ℕ → Option Content → Type 0
 FitsSize size None = Unit {0}
 FitsSize size (Some c) = IsContentOf size c
 
--- the size is small, the content fits it, and events are shown only if the content is told
+-- the size is small, the content fits it, and events are shown only if the content is reported
 pub record IsWellFormed (size : ℕ) (shows : Bool) (told : Option Content) : Type 0 where
   pub bound : size < 2 ^ 44
   pub fits : FitsSize size told
   pub shown : IsTrue shows → IsSome told
 
--- what a disk tells of itself: its size in sectors, whether it shows its events, its content if it tells that, how
+-- what a disk reports of itself: its size in sectors, whether it shows its events, its content if it reports that, how
 -- often it has failed, and how often it was asked to read or a look has served a read
 pub record DiskState : Type 0 where
   pub size : ℕ
@@ -27,7 +27,7 @@ pub record DiskState : Type 0 where
   pub reads : ℕ
   pub well_formed : IsWellFormed size shows content
 
--- a disk that tells no content, and so shows no events
+-- a disk that reports no content, and so shows no events
 abbrev pub untold : (size faults reads : ℕ) → size < 2 ^ 44 → DiskState
 untold size faults reads bound = record {
   size = size;
@@ -38,7 +38,7 @@ untold size faults reads bound = record {
   well_formed = record { bound = bound; fits = tt; shown = λ h. h };
 }
 
--- a disk that tells its content and shows its events
+-- a disk that reports its content and shows its events
 abbrev pub showing : (c : Content) (faults reads : ℕ) → length c.base < 2 ^ 44 → IsContentOf (length c.base) c → DiskState
 showing c faults reads bound fits = record {
   size = length c.base;
@@ -64,7 +64,7 @@ pub record FailsIn (events : List Event) (old new : DiskState) : Type 0 where
   pub logs : Logs (take count events) old new
   pub rose : Rose old.faults new.faults
 
--- the bytes are what stands in sector n, if that is told
+-- the bytes are what stands in sector n, if that is reported
 abbrev pub GivesFrom : Option Content → ℕ → List ℕ → Type 0
 GivesFrom None n bytes = Unit {0}
 GivesFrom (Some c) n bytes = bytes ≡ present c n
@@ -72,7 +72,7 @@ GivesFrom (Some c) n bytes = bytes ≡ present c n
 abbrev pub Gives : DiskState → ℕ → List ℕ → Type 0
 Gives d n bytes = GivesFrom d.content n bytes
 
--- each 512 of the bytes are what stands in a sector, the first in number n, if that is told
+-- each 512 of the bytes are what stands in a sector, the first in number n, if that is reported
 abbrev pub GivesEachFrom : Option Content → ℕ → List ℕ → Type 0
 GivesEachFrom told n bytes = (j : ℕ) → j < length bytes / 512 → GivesFrom told (n + j) (part 512 j bytes)
 

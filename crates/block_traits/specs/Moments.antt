@@ -4,7 +4,8 @@ use Rattle.block_traits.specs.declared.disk.Event.TheVariants.{Flush}
 use Rattle.block_traits.specs.Content.{Content, at_moment, kept_values}
 use Rattle.block_traits.specs.Crash.{IsImage, IsTorn}
 
--- at each moment since the first content this holds of that content and of the one at the moment, if contents are told
+-- at each moment since the first content this holds of that content and of the one at the moment, if contents are
+-- reported
 abbrev pub AtEachMoment : (Content → Content → Type 0) → Option Content → Option Content → Type 0
 AtEachMoment Holds None after = Unit {0}
 AtEachMoment Holds (Some before) None = ⊥

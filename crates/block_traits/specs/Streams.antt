@@ -1,18 +1,18 @@
--- What a source, a sink and entropy tell of themselves, and what calls of them do.
+-- What a source, a sink and entropy report of themselves, and what calls of them do.
 use Rattle.std.specs.Prelude.{◌≡◌, ℕ, ◌≤◌, List, length, take, Option}
 use Rattle.std.specs.Io.KnownBytes.{append_known, prepend_known}
 use Rattle.block_traits.specs.Causes.{Counted, Rose}
 
--- a source by the bytes that it has left, if it tells them, how often it failed, how often a call was refused, and how
--- often a call met its end
+-- a source by the bytes that it has left, if it reports them, how often it failed, how often a call was refused, and
+-- how often a call met its end
 pub record SourceState : Type 0 where
   pub left : Option (List ℕ)
   pub faults : ℕ
   pub refused : ℕ
   pub ends : ℕ
 
--- a sink by the bytes that it took, if it tells them, how often it failed, how often a call was refused, and how often
--- it was given nothing
+-- a sink by the bytes that it took, if it reports them, how often it failed, how often a call was refused, and how
+-- often it was given nothing
 pub record SinkState : Type 0 where
   pub taken : Option (List ℕ)
   pub faults : ℕ
@@ -36,7 +36,7 @@ pub record TookPart (text : List ℕ) (old new : SinkState) : Type 0 where
   pub refused : Counted 1 old.refused new.refused
   pub idle : new.idle ≡ old.idle
 
--- entropy by the bytes that it has left, if it tells them, how often it failed, and how often it was asked
+-- entropy by the bytes that it has left, if it reports them, how often it failed, and how often it was asked
 pub record EntropyState : Type 0 where
   pub left : Option (List ℕ)
   pub faults : ℕ

@@ -30,7 +30,7 @@ pub enum StoreFault {
 
 /// A cabinet: a store of whole files, each with a name.
 pub trait Cabinet {
-    /// The cabinet's files, if it tells them, as it does always or never. Then counts, none of which falls: of
+    /// The cabinet's files, if it reports them, as it does always or never. Then counts, none of which falls: of
     /// failures, of files that were absent or too long, of loads and of stores.
     ghost state: { Self → CabinetState };
 
@@ -48,7 +48,7 @@ pub trait Cabinet {
         ensures asked { Counted 1 (state self.old).loads (state self.new).loads }
         ensures unstored { (state self.new).stores ≡ (state self.old).stores };
 
-    /// Makes or replaces the file of this name, and leaves the others. After a failure a cabinet that tells its files
+    /// Makes or replaces the file of this name, and leaves the others. After a failure a cabinet that reports its files
     /// has the files that it had. Nothing is loaded. The store is counted whatever the result.
     fn store(&mut self, alloc: Global, name: &[u8], bytes: &[u8]) -> Result<(), StoreFault>
         ensures ok { OnOk result ((state self.new).files ≡ stored name.now bytes.now (state self.old).files) }

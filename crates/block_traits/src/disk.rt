@@ -32,17 +32,17 @@ pub fn sector_of(bytes: &[u8], j: usize) -> Sector
 
 /// A disk of fewer than 2^44 sectors.
 pub trait Disk: Drop {
-    /// The size, and whether the disk shows its events; neither ever changes. The content, if the disk tells it, as it
-    /// does always or never. A count of faults, which never falls. A count of the reads that the disk was asked for and
-    /// of those that looks have served. What the disk tells is well formed.
+    /// The size, and whether the disk shows its events; neither ever changes. The content, if the disk reports it, as
+    /// it does always or never. A count of faults, which never falls. A count of the reads that the disk was asked for
+    /// and of those that looks have served. What the disk reports is well formed.
     ghost state: { Self → DiskState };
 
     /// The size in sectors.
     fn sectors(&self) -> u64
         ensures { result ≡ (state self.now).size };
 
-    /// Reads sector `n`: what stands there now, if the disk tells its content. The read is counted whatever the result.
-    /// After a failure `into` may hold any bytes.
+    /// Reads sector `n`: what stands there now, if the disk reports its content. The read is counted whatever the
+    /// result. After a failure `into` may hold any bytes.
     fn read(&mut self, n: u64, into: &mut Sector) -> Result<(), DiskFailed>
         requires { n < (state self.old).size }
         ensures bytes { OnOk result (Gives (state self.old) n into.new) }

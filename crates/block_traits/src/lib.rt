@@ -1,8 +1,8 @@
 //! The outside world, as the crates above see it: disks of 512-byte sectors, the place of a
 //! disk's metadata, sources and sinks of bytes, a cabinet of files, and entropy.
 //!
-//! Each trait has ghost members for what an object tells of itself: its content, if it tells that, and how often it has
-//! failed. An object that reports a failure has counted it.
+//! Each trait has ghost members for what an object reports of itself: its content, if it reports that, and how often it
+//! has failed. An object that reports a failure has counted it.
 #![tactic(auto)]
 
 mod byte_list;

@@ -18,7 +18,7 @@ pub struct EntropyFailed;
 
 /// A source of bytes, such as standard input.
 pub trait Source {
-    /// The bytes that are left, if the source tells them. Then counts: of failures, which never falls, of the calls
+    /// The bytes that are left, if the source reports them. Then counts: of failures, which never falls, of the calls
     /// that were refused, and of those that met the end.
     ghost state: { Self → SourceState };
 
@@ -40,7 +40,7 @@ pub trait Source {
 
 /// A sink for bytes, such as standard output.
 pub trait Sink {
-    /// The bytes that the sink took, if it tells them. Then counts: of failures, which never falls, of the calls that
+    /// The bytes that the sink took, if it reports them. Then counts: of failures, which never falls, of the calls that
     /// were refused, and of those that gave nothing.
     ghost state: { Self → SinkState };
 
@@ -61,7 +61,7 @@ pub trait Sink {
 
 /// A source of random bytes.
 pub trait Entropy {
-    /// The bytes that are left, if the object tells them. Then counts: of failures, which never falls, and of calls.
+    /// The bytes that are left, if the object reports them. Then counts: of failures, which never falls, and of calls.
     ghost state: { Self → EntropyState };
 
     /// Fills `into` with the first bytes that are left, in order. A failure takes nothing, and `into` may then hold any

@@ -8,7 +8,7 @@ use Rattle.std.proofs.Common.{Bool, Err, List, None, Ok, Option, Result, Some, a
 use Rattle.command_rows.specs.Causes.{FindsBadUnit, FindsInQueue, HasBadLength, LinePassesEnd, asks_of, needs_tags, writes_data}
 use Rattle.command_rows.proofs.Gate.{with_attached}
 
--- ---- what is told decides
+-- ---- what is reported decides
 
 pub reads_same : (disk : DiskState) (place : ℕ) (m : Metadata) (found : Result Metadata MetaFault) → ShowsMetadataAt disk place m → IsReadAs disk place found → found ≡ Ok m
 reads_same disk place m found shows read =

@@ -40,7 +40,7 @@ written n m bytes = let here : (n == n) ≡ true = (Decides-eqb n n).1 refl in r
 present-init : (n : ℕ) (m : List ℕ) (c : Content) → present (with_events (Flush ∷ Write n m ∷ Flush ∷ []) c) n ≡ m
 present-init n m c = present_after-append c.history (Flush ∷ Write n m ∷ Flush ∷ []) n (get_or c.base n []) ∙ written n m (present_after c.history n (get_or c.base n []))
 
--- a content that is told
+-- a content that is reported
 record Told (told : Option Content) : Type 0 where
   c : Content
   is : told ≡ Some c

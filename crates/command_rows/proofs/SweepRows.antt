@@ -11,7 +11,7 @@ use Rattle.command_rows.proofs.SweepPlaces.{eight_loaded, eight_says, from_stays
 
 -- ---- what was loaded
 
--- the cabinet tells its files, of which the named one is the eight bytes of this number
+-- the cabinet reports its files, of which the named one is the eight bytes of this number
 pub record HoldsPlace (line : List ℕ) (file : Span) (cabinet : CabinetState) (place : ℕ) : Type 0 where
   pub small : place < 2 ^ 64
   pub files : Files

@@ -1,4 +1,4 @@
--- What a line finds if nothing refuses it, in a drawer and a cabinet that tell what they hold.
+-- What a line finds if nothing refuses it, in a drawer and a cabinet that report what they hold.
 use Rattle.std.specs.Prelude.{List, None, Some, slice_get, ℕ, ◌≡◌}
 use Rattle.command_rows.specs.Gate.{needs, refused_by}
 use Rattle.command_rows.specs.Rows.{DrawerState, Reach, World, place_of}

@@ -66,6 +66,6 @@ IsGround (refusals.BadPlace place media) = Unit {0}
 IsGround refusals.NotAuthenticated = ⊥
 IsGround (refusals.BadPlaceFile word length) = Unit {0}
 
--- a line is refused for what it finds and is told
+-- a line is refused for what it finds and for what is reported
 abbrev pub HasGround : List ℕ → Command → Reach → Refusal → Type 0
 HasGround line command old refusal = (verb_of command).grounds line old refusal

@@ -4,7 +4,7 @@ use Rattle.eli_base.specs.declared.refusals.Refusal.TheVariants as refusals
 use Rattle.command_rows.specs.Rows.{Reach}
 use Rattle.command_rows.specs.Vocabulary.{CabinetState, Files, KeyWords, Refusal, Rose, components_of}
 
--- both cabinets tell their files, by which the words of one line name the same components as those of the other
+-- both cabinets report their files, by which the words of one line name the same components as those of the other
 pub record NamesSameKey (line : List ℕ) (words : KeyWords) (cabinet : CabinetState) (line' : List ℕ) (words' : KeyWords) (cabinet' : CabinetState) : Type 0 where
   pub files : Files
   pub files' : Files

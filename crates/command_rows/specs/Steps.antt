@@ -56,7 +56,7 @@ pub record ReadsDisk {A : Type 0} (Answers : DiskState → Result A Refusal → 
 
 -- ---- a device sector is read by its number
 
--- what the disk gives there in one read, if it tells its content; or that read failed
+-- what the disk gives there in one read, if it reports its content; or that read failed
 abbrev pub DeviceSectorAnswer : ℕ → DiskState → Result (List ℕ) Refusal → DiskState → Type 0
 DeviceSectorAnswer place old (Ok bytes) new = (length bytes ≡ 512) × Gives old place bytes × Logs [] old new × Counted 1 old.reads new.reads
 DeviceSectorAnswer place old (Err refusals.DeviceFault) new = FailsIn [] old new × Counted 1 old.reads new.reads
@@ -234,7 +234,7 @@ abbrev pub NeedsSectors : Attachment → ℕ → ℕ → Reach → Result (Unit 
 NeedsSectors a sector count old answer new =
     DecidesBySize (λ size. in_range sector count (media_sectors a.keying.auth a.keying.sectorsize (512 * size))) old answer new
 
--- what the sectors read as, if the disk tells its content, each unit being read once; or the first unit whose tag
+-- what the sectors read as, if the disk reports its content, each unit being read once; or the first unit whose tag
 -- differs; or the disk failed, all units before having been accepted
 abbrev pub SectorsAnswer : Keying → ℕ → ℕ → DiskState → Result (List ℕ) Refusal → DiskState → Type 0
 SectorsAnswer k sector count old (Ok bytes) new =

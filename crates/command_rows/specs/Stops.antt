@@ -8,7 +8,7 @@ use Rattle.command_rows.specs.verbs.{verb_of}
 
 -- ---- a line
 
--- what a line changes in the metadata on the disk that it names, by the files that are told and what the drawer did
+-- what a line changes in the metadata on the disk that it names, by the files that are reported and what the drawer did
 -- with its disk, whether or not it's done
 abbrev pub ChangesMetadata : List ℕ → Command → Option Files → Holding → DiskState → Bool → DiskState → Type 0
 ChangesMetadata line command told holding old done new = (verb_of command).changes line told holding old done new

@@ -28,10 +28,10 @@ pub data RunKind : Type 0 where
   OfOther : RunKind
 
 -- a verb: its row, for a drawer in the state that it needs; what the row finds if nothing refuses it; what a line is
--- refused for of what it finds and is told; which file it is refused for; the events of a line that is served to its
--- end; what it changes in the metadata on the disk, by the files that are told and what the drawer did with its disk,
--- whether or not it's done; the place of the name of the file that it stores, if it stores one; what it asks of an
--- attached provider; what it places there; and what more is said of it over a run
+-- refused for of what it finds and is reported; which file it is refused for; the events of a line that is served to
+-- its end; what it changes in the metadata on the disk, by the files that are reported and what the drawer did with its
+-- disk, whether or not it's done; the place of the name of the file that it stores, if it stores one; what it asks of
+-- an attached provider; what it places there; and what more is said of it over a run
 pub record Verb : Type 1 where
   pub goes_through : List ℕ → Reach → Answer → Reach → Type 0
   pub fits : List ℕ → Reach → Type 0

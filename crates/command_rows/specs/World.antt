@@ -53,7 +53,7 @@ kept_in (IsSuspended kept) = Some kept
 abbrev pub SuspendedWith : Holding → (Kept → Type 0) → Type 0
 SuspendedWith holding Holds = MatchOption (kept_in holding) ⊥ Holds
 
--- a drawer: its name, what its disk tells of itself, and what it does with it
+-- a drawer: its name, what its disk reports of itself, and what it does with it
 pub record DrawerState : Type 0 where
   pub name : List ℕ
   pub disk : DiskState

@@ -70,10 +70,10 @@ pub fn a_refusal_has_its_cause()
 {}
 
 /// A line is served if all causes of `a_refusal_has_its_cause` are ruled out. If a line finds what its verb needs
-/// (`Fits`) in a drawer and, if it loads files, in a cabinet that tell what they hold, and no count of faults rises, no
-/// cause is left but want of memory. So it is refused for that alone, and only if its verb may lack memory. `dump` and
-/// `backup` need metadata in the last sector. `attach` needs an idle drawer, metadata that are admitted, and files by
-/// which the words name a key that opens a slot that is asked for. `read` needs an attached provider that has the
+/// (`Fits`) in a drawer and, if it loads files, in a cabinet that report what they hold, and no count of faults rises,
+/// no cause is left but want of memory. So it is refused for that alone, and only if its verb may lack memory. `dump`
+/// and `backup` need metadata in the last sector. `attach` needs an idle drawer, metadata that are admitted, and files
+/// by which the words name a key that opens a slot that is asked for. `read` needs an attached provider that has the
 /// sectors, whose tags fit.
 pub fn no_cause_is_left_where_all_is_found()
     ensures cause { (line : List ℕ) (command : Command) (prov : Span) (refusal : Refusal) (old new : World) →
@@ -103,7 +103,7 @@ pub fn a_sweep_lists_each_failing_unit_once()
 /// `restore` each value that the last sector of the named drawer may hold is one from before or the new metadata; once
 /// the line is done, they are the only one. The new metadata are made of what the line names: the key of `init` and the
 /// new key of `setkey` are of the components that its words name, and so is the old key of an idle drawer; those of
-/// `restore` are the backup in the named file. This is said of the files from before the line, if the cabinet tells
+/// `restore` are the backup in the named file. This is said of the files from before the line, if the cabinet reports
 /// them. `setkey` leaves all but its slot, its bit and the iterations, which still make the other slot's key; so does
 /// `delkey` but for the slots that are named, which are clear in each value that may be held once a flush landed, and
 /// zeros once it's done. Until the first flush of `resize` landed, each value that a sector may hold is one from

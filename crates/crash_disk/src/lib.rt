@@ -1,5 +1,5 @@
 //! The outside world in memory: a disk that shows its events, a source, a sink, a cabinet of files, and entropy. Each
-//! tells its content. It fails at the calls that it was told to fail at, if it has no room, or if more is asked for
+//! reports its content. It fails at the calls that it was told to fail at, if it has no room, or if more is asked for
 //! than is left, and at no other call.
 #![tactic(auto)]
 

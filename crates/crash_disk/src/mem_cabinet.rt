@@ -18,7 +18,7 @@ pub struct NamedFile {
     bytes: ByteList,
 }
 
-/// A cabinet in memory. It tells its files.
+/// A cabinet in memory. It reports its files.
 #[derive(Drop)]
 pub struct MemCabinet {
     files: Vec<NamedFile>,

@@ -9,7 +9,7 @@ use crate::sector_log::SectorLog;
 use block_traits::{Disk, DiskFailed, Event, NoMemory, Sector, sector_of};
 use std::alloc::{AllocError, Global};
 
-/// A disk in memory. It tells its content and shows its events.
+/// A disk in memory. It reports its content and shows its events.
 #[derive(Drop)]
 pub struct MemDisk {
     log: SectorLog,

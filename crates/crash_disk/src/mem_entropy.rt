@@ -7,7 +7,7 @@ use block_traits::{Entropy, EntropyFailed, NoMemory};
 use std::alloc::Global;
 use std::marker::Model;
 
-/// Entropy in memory. It tells what is left.
+/// Entropy in memory. It reports what is left.
 #[derive(Drop)]
 pub struct MemEntropy {
     bytes: Vec<u8>,

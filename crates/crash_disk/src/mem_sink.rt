@@ -9,7 +9,7 @@ use block_traits::{NoMemory, Sink, SinkFailed};
 use std::alloc::Global;
 use std::marker::Model;
 
-/// A sink in memory. It tells what it took.
+/// A sink in memory. It reports what it took.
 #[derive(Drop)]
 pub struct MemSink {
     bytes: Vec<u8>,

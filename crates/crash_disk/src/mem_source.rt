@@ -9,7 +9,7 @@ use block_traits::{NoMemory, Source, SourceFailed};
 use std::alloc::Global;
 use std::marker::Model;
 
-/// A source in memory. It tells what is left.
+/// A source in memory. It reports what is left.
 #[derive(Drop)]
 pub struct MemSource {
     bytes: Vec<u8>,

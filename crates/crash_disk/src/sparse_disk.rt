@@ -10,7 +10,7 @@ use crate::write_log::WriteLog;
 use block_traits::{Disk, DiskFailed, Event, NoMemory, Sector, sector_of};
 use std::alloc::Global;
 
-/// A disk in memory of any size, which keeps written sectors alone: the others hold zeros. It tells
+/// A disk in memory of any size, which keeps written sectors alone: the others hold zeros. It reports
 /// its content and shows its events. A read looks at each write that was made.
 #[derive(Drop)]
 pub struct SparseDisk {

@@ -1,4 +1,4 @@
--- What the disk of a drawer of a run tells.
+-- What the disk of a drawer of a run reports.
 use Rattle.block_traits.specs.Disk.{DiskState}
 use Rattle.disk_layers.specs.ConcatDisk as concat
 use Rattle.provider_disk.specs.ProviderDisk as provider_disk

@@ -1,4 +1,4 @@
--- What a disk that notes its events tells.
+-- What a disk that notes its events reports.
 use Rattle.block_traits.specs.Disk.{DiskState}
 use Rattle.crash_disk.specs.SparseDisk as sparse_disk
 use Rattle.geli_cases.specs.declared.traced_disk.TracedDisk.{TracedDisk}

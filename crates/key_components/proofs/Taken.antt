@@ -76,7 +76,7 @@ IsRefusal-weaker answer other (CabinetFault word) same is = tt
 IsRefusal-weaker answer other NoMemory same is = tt
 IsRefusal-weaker answer other refusal same is = same is
 
--- these bytes were taken from the files of these spans, where the files are told
+-- these bytes were taken from the files of these spans, where the files are reported
 abbrev pub TakenSo : Taking → Option Files → List ℕ → List Span → List ℕ → Type 0
 TakenSo taking told line spans bytes = IfSome told (λ files. Taken taking files line spans bytes)
 

@@ -97,7 +97,7 @@ refused_word (refusals.BadPlace place media) = None
 refused_word refusals.NotAuthenticated = None
 refused_word (refusals.BadPlaceFile word length) = Some word
 
--- the word is that of a file, and the files before it are without fault, where that is told
+-- the word is that of a file, and the files before it are without fault, where that is reported
 pub record IsAt (taking : Taking) (told : Option Files) (line : List ℕ) (spans : List Span) (word : ℕ) : Type 0 where
   pub before : List Span
   pub span : Span
@@ -107,7 +107,7 @@ pub record IsAt (taking : Taking) (told : Option Files) (line : List ℕ) (spans
   pub served : IfSome told (λ files. first_fault taking files line 0 before ≡ None)
 
 -- the word is that of a passphrase file; all key files, and the passphrase files before it, are without fault, where
--- that is told
+-- that is reported
 pub record IsOfPassphrases (told : Option Files) (line : List ℕ) (words : KeyWords) (word : ℕ) : Type 0 where
   pub keys : IfSome told (λ files. first_fault key_files files line 0 words.files ≡ None)
   pub at : IsAt passphrase_files told line words.pass word

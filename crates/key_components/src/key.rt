@@ -43,7 +43,7 @@ pub fn load_components<C: Cabinet>(
 ) -> Result<Components, Refusal>
     requires { KeyIsWithin (length line.now) words.now }
 
-    // Where the cabinet tells its files, they decide the answer, unless it failed or there was no memory.
+    // If the cabinet reports its files, they decide the answer, unless it failed or there was no memory.
     ensures answer { IfSome (C.state files.old).files (λ told. IsAnswer (components_of told line.now words.now) result) }
 
     // In any case the components are of the kind that the words want, and within the limits.

@@ -324,7 +324,7 @@ LastsClosed k xs c deeds = (x : Exchange) (bytes : List ℕ) (part : ByteRange) 
     IsTorn (after (session_steps 0 k xs deeds ++ Flush ∷ []) c) image →
     range_reading k (survivor image) part ≡ Ok (part_bytes part (range_of x.request) bytes)
 
--- what a session whose last flush was made leaves of a disk that told this content before
+-- what a session whose last flush was made leaves of a disk that reported this content before
 pub record SurvivesClosed (k : Keying) (xs : List Exchange) (c : Content) (last new : DiskState) : Type 0 where
   pub survives : Survives k xs c last
   pub content : new.content ≡ Some (after (session_steps 0 k xs survives.deeds ++ Flush ∷ []) c)

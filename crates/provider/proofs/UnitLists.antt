@@ -112,7 +112,7 @@ joined-next readings j start end block piece lt so here long room =
     ∙ joined-more readings j (take start block) piece lt so here
     ∙ ap Ok (sym (take-put_mid start (end - start) block piece end long room))
 
--- ---- what reading a unit adds to what was read before, where the content is told
+-- ---- what reading a unit adds to what was read before, where the content is reported
 
 pub read_next : (told now_told : Option Content) (k now : Keying) (sector j n size start end : ℕ) (block piece : List ℕ) → k.auth ≢ Off → now ≡ k → now_told ≡ told → j < units k
     → n ≡ sector * units k + j → size ≡ end - start → IsUnit k.auth k.sectorsize j start end → length block ≡ k.sectorsize → length piece ≡ end - start

@@ -37,7 +37,7 @@ moment_of_steps k c events steps t same =
     ∙ ap (λ (l : List Event). front ++ l) (take-opened k count t events) in
     ap (λ (events : List Event). record { base = opened_data_sectors k c.base; history = events }) (left ∙ sym right)
 
--- what the disk upon the provider tells of a moment below is what it told after the steps done until then
+-- what the disk upon the provider reports of a moment below is what it reported after the steps done until then
 told_above : (k : Keying) (c : Content) (events : List Event) (steps : List Step) (t : ℕ) → AreStepsOver k c events steps
     → opened_content k (content_below c events t) ≡ content_above k c events steps t
 told_above k c events steps t over = moment_of_steps k c events steps t over.same

@@ -21,7 +21,7 @@ use Rattle.provider_disk.specs.Opened.{KeepsLastData, opened_content, opened_eve
 
 -- ---- what is done below and above
 
--- what the disk below told after the first t of these events
+-- what the disk below reported after the first t of these events
 abbrev pub content_below : Content → List Event → ℕ → Content
 content_below c events t = at_moment (length c.history + t) (with_events events c)
 
@@ -41,7 +41,7 @@ pub record AreStepsOver (k : Keying) (c : Content) (events : List Event) (steps 
 abbrev pub cells_above : Keying → Content → List Event → List Step → ℕ → ℕ → List Writing
 cells_above k c events steps t = cell (opened_content k c) (take (steps_above k c events t) steps)
 
--- what the disk upon the provider told after the first t events below
+-- what the disk upon the provider reported after the first t events below
 abbrev pub content_above : Keying → Content → List Event → List Step → ℕ → Content
 content_above k c events steps t = moment (steps_above k c events t) steps (opened_content k c)
 

@@ -1,5 +1,5 @@
--- What a disk upon a provider tells: what the disk below tells, each device sector but the last opened by itself. The
--- last has the metadata. Logical sectors are single device sectors here (`IsSingle` of sealing).
+-- What a disk upon a provider reports: what the disk below reports, each device sector but the last opened by itself.
+-- The last has the metadata. Logical sectors are single device sectors here (`IsSingle` of sealing).
 use Rattle.std.specs.Prelude.{◌≡◌, ℕ, ◌+◌, ◌-◌, ◌≤◌, nat_lt, Bool, false, List, [], ◌∷◌, length, take, if◌then◌else◌, Result, Ok, Err}
 use Rattle.block_traits.specs.declared.disk.Event.{Event}
 use Rattle.block_traits.specs.declared.disk.Event.TheVariants.{Write, Flush}

@@ -6,8 +6,8 @@ use Rattle.provider_disk.specs.declared.provider_disk.ProviderDisk.{ProviderDisk
 use Rattle.provider_disk.specs.Opened.{opened_content}
 use Rattle.provider_disk.specs.OpenedFits.{IsWellFormed-opened}
 
--- as a disk it has all sectors of the disk below but the last, tells what they read as if that disk tells its sectors,
--- shows no events, and has the faults and the reads of that disk
+-- as a disk it has all sectors of the disk below but the last, reports what they read as if that disk reports its
+-- sectors, shows no events, and has the faults and the reads of that disk
 abbrev pub provider_disk_of : {D : Type 0} → (D → DiskState) → ProviderDisk D → DiskState
 provider_disk_of state p = record {
   size = (state p.on.disk).size - 1;

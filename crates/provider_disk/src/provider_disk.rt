@@ -8,7 +8,7 @@ use block_traits::{Disk, DiskFailed, Event, Sector};
 use eli_base::Cipher;
 use provider::Provider;
 
-/// A provider as a disk: its logical sectors are the sectors. If the disk below tells its sectors, this one does too:
+/// A provider as a disk: its logical sectors are the sectors. If the disk below reports its sectors, this one does too:
 /// its base is what the base below reads as, and its history the one below, with each write opened and without the
 /// writes of the last sector. It shows no events.
 // The bound is `Drop` and not `Disk`, so that the type may be named at a boxed disk.

@@ -19,7 +19,7 @@ use Rattle.readings.specs.Crashes.{image_units}
 use Rattle.sealing.specs.Sectors.{joined}
 use Rattle.provider_readings.specs.Data.{survivor}
 
--- the disk tells that it has this image, and nothing was logged since
+-- the disk reports that it has this image, and nothing was logged since
 abbrev pub HasImage : List (List ℕ) → DiskState → Type 0
 HasImage image disk = disk.content ≡ Some (survivor image)
 

@@ -26,7 +26,7 @@ pub data QueueCall : Type 0 where
   Step : (tag : ℕ) → Result ℕ StepFault → QueueCall
   Reap : (tag : ℕ) → (before after : List ℕ) → Result Reaped ReapFault → QueueCall
 
--- a queue and its provider: the keying, whether it is read-only, and what its disk tells of itself
+-- a queue and its provider: the keying, whether it is read-only, and what its disk reports of itself
 pub record InFlight : Type 0 where
   pub queue : List Request
   pub keying : Keying

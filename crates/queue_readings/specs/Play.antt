@@ -46,7 +46,7 @@ pub record IsPlay (k : Keying) (c : Content) (m : Play) : Type 0 where
   pub steps : AreStepsBelow m.next (m.steps ++ pending k m.tasks)
   pub tasks : All (IsOpenTask k c m.steps) m.tasks
 
--- the disk tells that it had this content before the steps, and the queue is that of the tasks
+-- the disk reports that it had this content before the steps, and the queue is that of the tasks
 pub record Shows (k : Keying) (c : Content) (m : Play) (open_requests : List Request) (d : DiskState) : Type 0 where
   pub play : IsPlay k c m
   pub told : d.content ≡ Some (after m.steps c)

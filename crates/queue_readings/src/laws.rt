@@ -18,7 +18,7 @@ ghost use Rattle.queue_readings.specs.Alone.{DoesAsProvider, IsDoneAlone};
 ghost use Rattle.queue_readings.specs.Play.{IsCovered, IsPlay, Play, Shows};
 ghost use Rattle.queue_readings.specs.Moves.{AreMade, QueueCall, InFlight, IsPlayed, ShowsIn};
 
-/// A queue without requests, on a provider whose disk tells its content, shows a play without steps.
+/// A queue without requests, on a provider whose disk reports its content, shows a play without steps.
 pub fn plays_begin_empty()
     ensures { (k : Keying) (c : Content) (d : DiskState) → IsKeying k → d.content ≡ Some c →
         Shows k c (record { steps = []; tasks = []; next = 0 }) [] d }

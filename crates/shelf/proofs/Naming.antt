@@ -1,4 +1,4 @@
--- No two drawers have one name, whatever their disks tell.
+-- No two drawers have one name, whatever their disks report.
 use Rattle.std.proofs.Common.{◌≡◌, ◌∙◌, ◌++◌, ◌<◌, ℕ, List, [], ◌∷◌, length, get_or, refl, ap, sym, subst, Bool, true, false, None}
 use Rattle.std.specs.List.{remove}
 use Rattle.std.specs.Str.{bytes_eq}
@@ -17,7 +17,7 @@ place_anyhow : {D : Type 0} (state other : D → DiskState) (name : List ℕ) (d
 place_anyhow state other name [] = refl
 place_anyhow state other name (d ∷ ds) = ap (place_by (bytes_eq d.name name)) (place_anyhow state other name ds)
 
--- what the disks tell doesn't matter
+-- what the disks report doesn't matter
 anyhow : {D : Type 0} (state other : D → DiskState) (drawers : List (Drawer D)) → NamesDiffer (drawers_of state drawers) → NamesDiffer (drawers_of other drawers)
 anyhow state other [] differ = tt
 anyhow state other (d ∷ ds) differ = (place_anyhow other state d.name ds ∙ differ.0, anyhow state other ds differ.1)

@@ -51,7 +51,7 @@ drawer_of state drawer = record { name = drawer.name; disk = disk_in state drawe
 abbrev pub drawers_of : {D : Type 0} → (D → DiskState) → List (Drawer D) → List DrawerState
 drawers_of state drawers = map (drawer_of state) drawers
 
--- no two drawers have one name, whatever their disks tell
+-- no two drawers have one name, whatever their disks report
 abbrev pub DifferInName : {D : Type 0} → List (Drawer D) → Type 0
 DifferInName {D} drawers = (state : D → DiskState) → NamesDiffer (drawers_of state drawers)
 

@@ -3,7 +3,7 @@ use Rattle.std.specs.Prelude.{Bool, List, None, Ok, Result, length, ℕ, ◌≡�
 use Rattle.command_rows.specs.Rows.{Idle, LacksRoom, NoBadFile, OfOther, Reach, Replies, Then, Verb, asks_nothing, done_or, places_nothing}
 use Rattle.command_rows.specs.Vocabulary.{AtEachMoment, DiskState, Event, HoldsNoMetadata, Kills, Refusal, Span, kill_events, last_sector, trash_size}
 
--- the drawer is idle from now on, even if it was attached, and its disk tells what it told
+-- the drawer is idle from now on, even if it was attached, and its disk reports what it reported
 abbrev pub Withdraws : Reach → Result (Unit {0}) Refusal → Reach → Type 0
 Withdraws old answer new =
     (answer ≡ Ok tt) × (new ≡ record { disk = old.disk; holding = Idle; cabinet = old.cabinet; entropy = old.entropy })

@@ -109,7 +109,7 @@ VerifyRow line file count restart a old answer new =
     (λ place. Then (SweepsFrom a place count)
     (λ part. StoresPlace line file part))) old answer new
 
--- `verify`: there is authentication, and unless the sweep begins anew the cabinet tells its files, of which the named
+-- `verify`: there is authentication, and unless the sweep begins anew the cabinet reports its files, of which the named
 -- one is absent or says a place that is there
 abbrev pub SaysPlace : ℕ → Option (List ℕ) → Type 0
 SaysPlace there None = Unit {0}

@@ -1,4 +1,4 @@
--- What the provider reads is what the disk upon it tells.
+-- What the provider reads is what the disk upon it reports.
 use Rattle.std.proofs.Common.{[], Result, refl, subst}
 use Rattle.provider.specs.Answers.{ReadAnswers, request}
 use Rattle.provider.specs.declared.faults.ReadFault.{ReadFault}

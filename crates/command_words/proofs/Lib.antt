@@ -5,6 +5,7 @@ mod Numbers
 mod OperandsLemmas
 mod Options
 mod Places
+pub mod Said
 mod Text
 mod Words
 pub mod Scan

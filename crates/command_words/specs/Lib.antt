@@ -11,4 +11,5 @@ pub mod Spans
 pub mod Places
 pub mod Bounds
 pub mod Images
+pub mod Said
 pub mod Traits

@@ -5,17 +5,21 @@ use Rattle.std.specs.Str.{IsUtf8}
 use Rattle.std.specs.declared.io.Error.{Error}
 use Rattle.std.specs.declared.io.ErrorKind.{ErrorKind}
 use Rattle.std.specs.declared.io.ErrorKind.TheVariants as kinds
-use Rattle.block_traits.specs.Cabinet.{Answers, load_answer}
+use Rattle.block_traits.specs.Cabinet.{Answers, CabinetState, load_answer}
 use Rattle.block_traits.specs.declared.cabinet.LoadFault.{LoadFault}
 use Rattle.block_traits.specs.declared.cabinet.LoadFault.TheVariants as load
 use Rattle.file_edge.specs.Asked.{Open, asking, more}
 use Rattle.file_edge.specs.Found.{IsOneOfImages}
-use Rattle.file_edge.specs.Names.{OpensTold}
+use Rattle.file_edge.specs.Names.{NamedFiles, OpensTold, told_files}
 use Rattle.file_edge.specs.Opening.{to_read}
 use Rattle.file_edge.specs.declared.found.FileId.{FileId}
 use Rattle.file_edge.specs.declared.found.Found.{Found}
 use Rattle.file_edge.specs.declared.image_file.ImageFile as image_file
 use Rattle.file_edge.specs.declared.opener.Opener as opener
+
+-- a cabinet beside these images over an opener that reports this, before anything was asked of it
+abbrev pub new_cabinet : List FileId → Option NamedFiles → CabinetState
+new_cabinet images told = record { files = told_files images told; faults = 0; misses = 0; loads = 0; stores = 0 }
 
 -- why nothing is loaded if the file can't be opened
 abbrev pub fault_of : ErrorKind → LoadFault

@@ -12,4 +12,5 @@ pub mod Storing
 pub mod Streams
 pub mod Told
 pub mod ToldFits
+pub mod Words
 pub mod Writing

@@ -3,6 +3,7 @@ use Rattle.std.specs.Prelude.{◌≡◌, List, [], ℕ, Bool, Option, None, Some
 use Rattle.std.specs.Result.{result_ok}
 use Rattle.std.specs.declared.fs.options.OpenOptions.{OpenOptions}
 use Rattle.std.specs.declared.io.Error.{Error}
+use Rattle.block_traits.specs.Streams.{EntropyState}
 use Rattle.file_edge.specs.Asked.{Asked, Open, asking, more}
 use Rattle.file_edge.specs.Opening.{to_read}
 use Rattle.file_edge.specs.declared.random_file.RandomFile.{RandomFile}
@@ -22,3 +23,7 @@ pub record AsksDevice {O : Type 0} (log_of : O → Option (List Asked)) (opener 
 abbrev pub left_in : {F : Type 0} → (F → Option (List ℕ)) → Option F → Option (List ℕ)
 left_in left None = Some []
 left_in left (Some device) = left device
+
+-- entropy of which this is left, before anything was asked of it
+abbrev pub new_entropy : Option (List ℕ) → EntropyState
+new_entropy left = record { left = left; faults = 0; calls = 0 }

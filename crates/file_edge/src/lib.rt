@@ -13,6 +13,7 @@ mod random_file;
 mod reader;
 mod store;
 mod streams;
+mod words;
 
 pub use ask::{Ask, KeptAsk};
 pub use file_cabinet::FileCabinet;
@@ -24,3 +25,4 @@ pub use random_file::RandomFile;
 pub use reader::{Reader, Writer};
 pub use store::{Stop, store_file};
 pub use streams::{InputSource, OutputSink};
+pub use words::words_of;

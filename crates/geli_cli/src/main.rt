@@ -3,9 +3,9 @@
 
 ghost use Rattle.std.specs.Prelude.{◌≡◌, MatchResult};
 
-use file_edge::{InputSource, OutputSink, SystemFiles};
+use file_edge::{InputSource, OutputSink, SystemFiles, words_of};
 use geli_core::Status;
-use image_run::{exit_code, run_files, words_of};
+use image_run::{exit_code, run_files};
 use std::fs::File;
 use std::process::ExitCode;
 use std::{env, io};

@@ -16,7 +16,6 @@ pub mod Pieces
 pub mod Placing
 pub mod ReadsBack
 pub mod Running
-pub mod Said
 pub mod Shelving
 pub mod SlotKeys
 pub mod Suspensions

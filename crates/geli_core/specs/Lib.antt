@@ -21,4 +21,3 @@ pub mod Survivors
 pub mod Sweeps
 pub mod Trace
 pub mod Vocabulary
-pub mod Words

@@ -1,17 +1,17 @@
 //! The run over disks, which are put on a shelf under their names.
 ghost use Rattle.std.specs.Prelude.{◌≡◌, ℕ, List, None, IfErr, IfOk, OnErr, OnOk, length, map, string_bytes};
 ghost use Rattle.command_words.specs.Images.{script_images};
+ghost use Rattle.command_words.specs.Said.{FitsItsLine, Says};
 ghost use Rattle.command_rows.specs.World.{NamesDiffer};
 ghost use Rattle.geli_core.specs.Images.{IsNotShelved, RunsOver, disks_back, idle_drawers};
 ghost use Rattle.geli_core.specs.Sites.{HasAsBefore, ReachesAsBefore, outside_now};
-ghost use Rattle.geli_core.specs.Words.{FitsItsLine, Says};
 ghost use Rattle.shelf.specs.Shelved.{drawers_of};
 
 use crate::Status;
 use crate::outside::Outside;
 use crate::top_call::{geli_main, run};
-use crate::words::Words;
 use block_traits::{Cabinet, Disk, Entropy, Sink, Source};
+use command_words::Words;
 use shelf::{AddFault, Drawers, Shelf};
 use std::alloc::Global;
 

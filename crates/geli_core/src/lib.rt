@@ -14,7 +14,6 @@ mod site;
 mod status;
 mod survivors;
 mod top_call;
-mod words;
 
 pub use bounds::{
     a_closing_refusal_has_its_drawer, device_faults_are_counted,
@@ -39,4 +38,3 @@ pub use survivors::{
     crashed_runs_attach_and_read, lines_keep_keyings, lines_survive_crashes, runs_survive_crashes,
 };
 pub use top_call::{geli_main, run};
-pub use words::{Words, read_words};

@@ -1,8 +1,7 @@
 //! The program `geli-nbd`: the streams, files and random bytes of the system are handed to the run.
 #![tactic(auto)]
 
-use file_edge::{InputSource, OutputSink, SystemFiles};
-use image_run::words_of;
+use file_edge::{InputSource, OutputSink, SystemFiles, words_of};
 use nbd_run::{Status, exit_code, serve_words, status_of};
 use std::fs::File;
 use std::process::ExitCode;

@@ -1,7 +1,8 @@
 //! What whole runs over memory share: the objects that a run is given, and its words.
 use block_traits::{Disk, DiskFailed, Event, Sector};
+use command_words::read_words;
 use crash_disk::{MemCabinet, MemDisk, MemEntropy, MemSink, MemSource};
-use geli_core::{Drawers, Outside, Status, read_words, run};
+use geli_core::{Drawers, Outside, Status, run};
 use std::alloc::Global;
 use std::cell::Cell;
 use std::rc::Rc;

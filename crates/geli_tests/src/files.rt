@@ -1,7 +1,8 @@
 //! Files that can't be loaded or stored: each refusal names its own cause, and none of them is want of memory.
 use crate::common::{stock, words};
+use command_words::read_words;
 use crash_disk::{MemCabinet, MemDisk, MemEntropy, MemSink, MemSource};
-use geli_core::{Drawers, Outside, read_words, run};
+use geli_core::{Drawers, Outside, run};
 use std::alloc::Global;
 use std::test::Fail;
 

@@ -2,8 +2,9 @@
 //! or a failure it isn't asked again. No clause orders the calls of two objects, so they share their notes.
 use crate::common::words;
 use block_traits::{Sink, SinkFailed, Source, SourceFailed};
+use command_words::read_words;
 use crash_disk::{MemCabinet, MemDisk, MemEntropy, MemSink, MemSource};
-use geli_core::{Drawers, Outside, read_words, run};
+use geli_core::{Drawers, Outside, run};
 use std::alloc::Global;
 use std::cell::Cell;
 use std::rc::Rc;

@@ -1,8 +1,7 @@
 //! The images that words name, against the table of another implementation.
 mod table;
 
-use command_words::images_of;
-use geli_core::read_words;
+use command_words::{images_of, read_words};
 use std::alloc::Global;
 use std::fmt::Write;
 use std::test::Fail;

@@ -1,5 +1,6 @@
 -- The disks of images, each by what its name asks for, and how they are opened.
-use Rattle.std.specs.Prelude.{◌≡◌, ◌⊎◌, ℕ, ◌+◌, ◌≤◌, ◌^◌, List, [], ◌∷◌, ◌++◌, length, codes, take, Bool, true, false, Option, None, Some}
+use Rattle.std.specs.Prelude.{◌≡◌, ◌⊎◌, ℕ, ◌+◌, ◌≤◌, ◌^◌, List, [], ◌∷◌, ◌++◌, length, codes, take, Bool, true, false, Option, None, Some, IfSome}
+use Rattle.block_traits.specs.Content.{Content}
 use Rattle.block_traits.specs.Disk.{DiskState}
 use Rattle.block_traits.specs.declared.disk.Disk.{Ghosts}
 use Rattle.disk_layers.specs.ConcatDisk as concat
@@ -7,11 +8,14 @@ use Rattle.disk_layers.specs.Names.{IsBehind, IsJoin}
 use Rattle.disk_layers.specs.WriteBehind as write_behind
 use Rattle.file_edge.specs.Asked.{Asked}
 use Rattle.file_edge.specs.FileDisk.{AsksDisk, IsUnopened, OpensDisk, TellsFile}
-use Rattle.file_edge.specs.Told.{Told}
+use Rattle.file_edge.specs.Names.{IsRandom}
+use Rattle.file_edge.specs.RandomFile.{AsksDevice, OpensDevice, left_in}
+use Rattle.file_edge.specs.Told.{Told, contents, told_in}
 use Rattle.file_edge.specs.declared.file_disk.FileDisk.{FileDisk}
 use Rattle.file_edge.specs.declared.found.FileId.{FileId}
 use Rattle.file_edge.specs.declared.image_file.ImageFile as image_file
 use Rattle.file_edge.specs.declared.opener.Opener as opener
+use Rattle.file_edge.specs.declared.random_file.RandomFile.{RandomFile}
 use Rattle.image_layers.specs.declared.image_disks.ImageDisk.{ImageDisk}
 use Rattle.image_layers.specs.declared.image_disks.ImageDisk.TheVariants.{Plain, Behind, Join}
 
@@ -67,6 +71,13 @@ module _ {F : Type 0} {g : Ghosts (FileDisk F)} where
   TellsImage told (Plain disk) = TellsFile told disk
   TellsImage told (Behind behind) = Unit {0}
   TellsImage told (Join both) = Unit {0}
+
+module _ {F : Type 0} {g : Ghosts (FileDisk F)} (told : F → Option Told) where
+  -- this holds of what the file of a disk reports, if it is the disk of a file alone, and the file reports its sectors
+  abbrev pub IfFileTells : ImageDisk F g → (Content → Type 0) → Type 0
+  IfFileTells (Plain disk) P = IfSome (contents (told_in told disk.file)) P
+  IfFileTells (Behind behind) P = Unit {0}
+  IfFileTells (Join both) P = Unit {0}
 
 -- ---- openings
 
@@ -139,6 +150,18 @@ module _ {O F : Type 0} (o : opener.Ghosts O F) (f : image_file.Ghosts F) (chang
     OpensImages [] [] old new = new ≡ old
     OpensImages (name ∷ names) (disk ∷ disks) old new = (next : Opening O) × OpensImageDisk name disk old next × OpensImages names disks next new
     OpensImages names disks old new = ⊥
+
+module _ {O F : Type 0} {g : Ghosts (FileDisk F)} (o : opener.Ghosts O F) (f : image_file.Ghosts F) where
+  -- what a run begins with: the images of these names are opened one after another, to be changed or not, and then the
+  -- random bytes, which are those that are reported; nothing else is asked of what opens them, and names have what they
+  -- had
+  pub record OpensNamed (changes : Bool) (names : List (List ℕ)) (disks : List (ImageDisk F g)) (files : List FileId) (random : RandomFile F) (old new : O) : Type 0 where
+    pub between : O
+    pub images : OpensImages o f changes names disks (opening old []) (opening between files)
+    pub device : OpensDevice o.answers between random
+    pub left : IsRandom (o.told between) (left_in f.left random.device)
+    pub told : o.told new ≡ o.told between
+    pub asked : AsksDevice o.asked between new
 
 -- ---- what is asked if there is no memory
 

@@ -17,8 +17,8 @@ use Rattle.file_edge.specs.declared.random_file.RandomFile.{RandomFile}
 use Rattle.geli_core.specs.Images.{OutsideState, RunsOver, outside_of}
 use Rattle.geli_core.specs.declared.status.Status.{Status}
 use Rattle.image_layers.proofs.Opened.{images_stay}
+use Rattle.image_layers.specs.Images.{OpensNamed}
 use Rattle.image_layers.specs.declared.image_disks.ImageDisk.{ImageDisk}
-use Rattle.image_run.specs.Program.{OpensNamed}
 
 pub names_at : {S : Type 0} (bytes : S → List ℕ) (names : List S) (i : ℕ) (name : S) → i < length names → get_or names i name ≡ name
     → map bytes names ≡ (map bytes (take i names) ++ bytes name ∷ []) ++ map bytes (drop (i + 1) names)

@@ -2,10 +2,10 @@
 use Rattle.std.proofs.Common.{◌≡◌, ◌∙◌, ap, sym, List, ℕ, Option, None}
 use Rattle.command_words.specs.Images.{line_of}
 use Rattle.command_words.specs.Reading.{command_in}
+use Rattle.command_words.specs.Said.{Says}
 use Rattle.command_words.specs.declared.commands.Command.{Command}
-use Rattle.geli_core.specs.Words.{Says}
-use Rattle.geli_core.specs.declared.words.Words.{Words}
-use Rattle.geli_core.specs.declared.words.Words.TheVariants.{Script, One, Usage}
+use Rattle.command_words.specs.declared.words.Words.{Words}
+use Rattle.command_words.specs.declared.words.Words.TheVariants.{Script, One, Usage}
 use Rattle.image_run.specs.Program.{changes_by, changes_images, changes_said}
 
 -- by the words and by what they say, it is the same whether the images are to be changed

@@ -17,10 +17,10 @@ use Rattle.geli_core.specs.Survivors.{EnduresCrashes, SurvivesBy}
 use Rattle.geli_core.specs.Trace.{EachLine, ServedLine}
 use Rattle.geli_core.specs.Vocabulary.{Play, Sep}
 use Rattle.geli_core.specs.declared.status.Status.{Status}
-use Rattle.image_layers.specs.Images.{TellsImage, image_disk_state}
+use Rattle.image_layers.specs.Images.{IfFileTells, TellsImage, image_disk_state}
 use Rattle.image_layers.specs.declared.image_disks.ImageDisk.{ImageDisk}
 use Rattle.image_layers.specs.declared.image_disks.ImageDisk.TheVariants.{Plain, Behind, Join}
-use Rattle.image_run.specs.Surviving.{IfFileTells, SurviveEachLine, SurviveInFiles, SurvivesInFile}
+use Rattle.image_run.specs.Surviving.{SurviveEachLine, SurviveInFiles, SurvivesInFile}
 use Rattle.readings.specs.Steps.{Step, after}
 
 -- what was reported grew by the steps

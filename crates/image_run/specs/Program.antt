@@ -1,21 +1,18 @@
--- The words of the command line, and what a run of the program begins with.
-use Rattle.std.specs.Prelude.{◌≡◌, ◌≢◌, ℕ, All, List, [], map, not, Bool, true, false, Option, None, Some, Result, Ok, Err, drop}
-use Rattle.std.specs.IoError.{error_kind}
-use Rattle.std.specs.Vec.Iter.{into_iter_items}
-use Rattle.std.specs.declared.io.Error.{Error}
-use Rattle.std.specs.declared.io.ErrorKind.TheVariants as kinds
-use Rattle.std.specs.declared.vec.IntoIter.{IntoIter}
-use Rattle.block_traits.specs.Cabinet.{CabinetState}
-use Rattle.block_traits.specs.Streams.{EntropyState, SinkState, SourceState}
+-- What a run of the program begins with, and what it does.
+use Rattle.std.specs.Prelude.{ℕ, All, List, map, not, Bool, true, false, Option, None, Some}
+use Rattle.block_traits.specs.Streams.{SinkState, SourceState}
 use Rattle.block_traits.specs.declared.disk.Disk.{Ghosts}
 use Rattle.command_rows.specs.World.{DrawerState}
 use Rattle.command_words.specs.Images.{image_names, line_of, script_images}
 use Rattle.command_words.specs.Reading.{command_in}
 use Rattle.command_words.specs.Traits.{traits_of}
 use Rattle.command_words.specs.declared.commands.Command.{Command}
+use Rattle.command_words.specs.declared.words.Words.{Words}
+use Rattle.command_words.specs.declared.words.Words.TheVariants.{Script, One, Usage}
 use Rattle.file_edge.specs.Asked.{Asked}
-use Rattle.file_edge.specs.Names.{IsRandom, NamedFiles, told_files}
-use Rattle.file_edge.specs.RandomFile.{AsksDevice, OpensDevice, left_in}
+use Rattle.file_edge.specs.FileCabinet.{new_cabinet}
+use Rattle.file_edge.specs.Names.{IsRandom}
+use Rattle.file_edge.specs.RandomFile.{left_in, new_entropy}
 use Rattle.file_edge.specs.declared.file_disk.FileDisk.{FileDisk}
 use Rattle.file_edge.specs.declared.found.FileId.{FileId}
 use Rattle.file_edge.specs.declared.image_file.ImageFile as image_file
@@ -23,17 +20,9 @@ use Rattle.file_edge.specs.declared.opener.Opener as opener
 use Rattle.file_edge.specs.declared.random_file.RandomFile.{RandomFile}
 use Rattle.geli_core.specs.Images.{OutsideState, RunsOver, outside_of}
 use Rattle.geli_core.specs.declared.status.Status.{Status}
-use Rattle.geli_core.specs.declared.words.Words.{Words}
-use Rattle.geli_core.specs.declared.words.Words.TheVariants.{Script, One, Usage}
-use Rattle.image_layers.specs.Images.{AsksFirst, OpensImages, TellsImage, opening, image_disk_state}
+use Rattle.image_layers.specs.Images.{AsksFirst, OpensNamed, TellsImage, image_disk_state}
 use Rattle.image_layers.specs.declared.image_disks.ImageDisk.{ImageDisk}
 use Rattle.image_run.specs.Surviving.{SurviveInFiles}
-
--- all arguments but the first, which is the program's name; arguments that can't be read are no words, unless that is
--- for want of memory
-abbrev pub HasWords : {X Z : Type 0} → Result (IntoIter X Z) Error → List X → Type 0
-HasWords (Ok args) words = words ≡ drop 1 (into_iter_items args)
-HasWords (Err error) words = (words ≡ []) × (error_kind error ≢ kinds.OutOfMemory)
 
 -- whether a command only reads its image, by what its verb is (`traits_of`)
 abbrev pub reads_alone : Option Command → Bool
@@ -59,30 +48,11 @@ changes_said Usage = true
 abbrev pub AsksFirstFiles : {O : Type 0} → (O → Option (List Asked)) → List (List ℕ) → O → O → Type 0
 AsksFirstFiles log_of words old new = AsksFirst log_of (changes_images words) (image_names words) old new
 
--- a cabinet beside these images over an opener that reports this, and entropy of which this is left, before anything
--- was asked of them
-abbrev pub new_cabinet : List FileId → Option NamedFiles → CabinetState
-new_cabinet images told = record { files = told_files images told; faults = 0; misses = 0; loads = 0; stores = 0 }
-
-abbrev pub new_entropy : Option (List ℕ) → EntropyState
-new_entropy left = record { left = left; faults = 0; calls = 0 }
-
 module _ {O F : Type 0} {g : Ghosts (FileDisk F)} (o : opener.Ghosts O F) (f : image_file.Ghosts F) where
-  -- what a run begins with: the images of these names are opened one after another, to be changed or not, and then the
-  -- random bytes, which are those that are reported; nothing else is asked of what opens them, and names have what they
-  -- had
-  pub record OpensNamed (changes : Bool) (names : List (List ℕ)) (disks : List (ImageDisk F g)) (files : List FileId) (random : RandomFile F) (old new : O) : Type 0 where
-    pub between : O
-    pub images : OpensImages o f changes names disks (opening old []) (opening between files)
-    pub device : OpensDevice o.answers between random
-    pub left : IsRandom (o.told between) (left_in f.left random.device)
-    pub told : o.told new ≡ o.told between
-    pub asked : AsksDevice o.asked between new
-
   -- what the run of these words begins with: the images that they name are opened, to be changed unless the command
   -- only reads, and then the random bytes
   abbrev pub OpensAll : List (List ℕ) → List (ImageDisk F g) → List FileId → RandomFile F → O → O → Type 0
-  OpensAll words disks files random old new = OpensNamed (changes_images words) (image_names words) disks files random old new
+  OpensAll words disks files random old new = OpensNamed o f (changes_images words) (image_names words) disks files random old new
 
 module _ {O F : Type 0} (g : Ghosts (FileDisk F)) (o : opener.Ghosts O F) (f : image_file.Ghosts F) where
   -- all that a run begins with was opened, and nothing else was asked

@@ -1,9 +1,8 @@
 -- What becomes of the drawers of a run in the files of their images.
-use Rattle.std.specs.Prelude.{◌≡◌, ℕ, List, [], ◌∷◌, ◌++◌, All, Option, Some, IfSome, map, slice_get}
-use Rattle.block_traits.specs.Content.{Content}
+use Rattle.std.specs.Prelude.{◌≡◌, ℕ, List, [], ◌∷◌, ◌++◌, All, Option, Some, map, slice_get}
 use Rattle.block_traits.specs.declared.disk.Disk.{Ghosts}
 use Rattle.command_rows.specs.World.{DrawerState, IsAmong, World}
-use Rattle.file_edge.specs.Told.{Told, contents, told_in}
+use Rattle.file_edge.specs.Told.{Told}
 use Rattle.file_edge.specs.declared.file_disk.FileDisk.{FileDisk}
 use Rattle.geli_core.specs.Images.{OutsideState, RunsOver, idle_drawers, whole_with}
 use Rattle.geli_core.specs.Lawful.{LineHolds}
@@ -11,18 +10,11 @@ use Rattle.geli_core.specs.Survivors.{EnduresCrashes}
 use Rattle.geli_core.specs.Trace.{EachLine, ServedLine}
 use Rattle.geli_core.specs.Vocabulary.{Sep}
 use Rattle.geli_core.specs.declared.status.Status.{Status}
-use Rattle.image_layers.specs.Images.{TellsImage, image_disk_state}
+use Rattle.image_layers.specs.Images.{IfFileTells, TellsImage, image_disk_state}
 use Rattle.image_layers.specs.declared.image_disks.ImageDisk.{ImageDisk}
-use Rattle.image_layers.specs.declared.image_disks.ImageDisk.TheVariants.{Plain, Behind, Join}
 use Rattle.readings.specs.Steps.{Step, after}
 
 module _ {F : Type 0} {g : Ghosts (FileDisk F)} (told : F → Option Told) where
-  -- this holds of what the file of a disk reports, if it is the disk of a file alone, and the file reports its sectors
-  abbrev pub IfFileTells : ImageDisk F g → (Content → Type 0) → Type 0
-  IfFileTells (Plain disk) P = IfSome (contents (told_in told disk.file)) P
-  IfFileTells (Behind behind) P = Unit {0}
-  IfFileTells (Join both) P = Unit {0}
-
   -- The drawer is that of one of these images, by its name, and did these steps. If the disk of the image was opened on
   -- a file alone that reported its content then, it now has the events of the steps after that content and no other. If
   -- power fails at any moment of them, before or within any write of a device sector, each image that is left reads
@@ -32,7 +24,7 @@ module _ {F : Type 0} {g : Ghosts (FileDisk F)} (told : F → Option Told) where
     pub disk : ImageDisk F g
     pub named : slice_get names place ≡ Some drawer.name
     pub opened : slice_get disks place ≡ Some disk
-    pub in_file : IfFileTells disk (λ c. (drawer.disk.content ≡ Some (after steps c)) × EnduresCrashes steps c)
+    pub in_file : IfFileTells told disk (λ c. (drawer.disk.content ≡ Some (after steps c)) × EnduresCrashes steps c)
 
   module _ (names : List (List ℕ)) (disks : List (ImageDisk F g)) where
     -- each drawer that is there after a line survives in its file, by the steps that the laws of that line say

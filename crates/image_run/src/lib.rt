@@ -8,4 +8,4 @@ mod words;
 
 pub use laws::drawers_survive_in_their_files;
 pub use run::run_files;
-pub use words::{exit_code, words_of};
+pub use words::exit_code;

@@ -1,13 +1,14 @@
 //! What a run begins with: the images that its words name are opened, and then the random bytes.
 ghost use Rattle.std.specs.Prelude.{◌≡◌, [], All, IfErr, IfOk, OnErr, Some, map, string_bytes};
-ghost use Rattle.file_edge.specs.RandomFile.{left_in};
-ghost use Rattle.geli_core.specs.Words.{FitsItsLine, image_names_of};
-ghost use Rattle.image_layers.specs.Images.{AsksFirst, OpensImages, TellsImage, opening};
-ghost use Rattle.image_run.specs.Program.{OpensNamed, changes_said, new_cabinet, new_entropy};
+ghost use Rattle.command_words.specs.Said.{FitsItsLine, image_names_of};
+ghost use Rattle.file_edge.specs.FileCabinet.{new_cabinet};
+ghost use Rattle.file_edge.specs.RandomFile.{left_in, new_entropy};
+ghost use Rattle.image_layers.specs.Images.{AsksFirst, OpensImages, OpensNamed, TellsImage, opening};
+ghost use Rattle.image_run.specs.Program.{changes_said};
 
 use block_traits::{Cabinet, Disk, Entropy, NoMemory};
+use command_words::Words;
 use file_edge::{FileCabinet, FileDisk, FileId, ImageFile, Opener, RandomFile};
-use geli_core::Words;
 use image_layers::{ImageDisk, open_image};
 use std::alloc::Global;
 

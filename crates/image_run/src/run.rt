@@ -9,8 +9,9 @@ ghost use Rattle.shelf.specs.Shelved.{drawers_of};
 
 use crate::opening::{Opened, open_all};
 use block_traits::{Cabinet, Disk, Entropy, NoMemory, Sink, Source};
+use command_words::read_words;
 use file_edge::{FileCabinet, FileDisk, ImageFile, Opener, RandomFile};
-use geli_core::{AddFault, Drawers, Outside, Status, read_words, run_over};
+use geli_core::{AddFault, Drawers, Outside, Status, run_over};
 use image_layers::ImageDisk;
 use std::alloc::Global;
 

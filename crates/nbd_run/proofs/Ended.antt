@@ -11,10 +11,9 @@ use Rattle.command_rows.specs.Vocabulary.{IsKeying}
 use Rattle.file_edge.specs.FileDisk as file
 use Rattle.file_edge.specs.Told.{Told}
 use Rattle.file_edge.specs.declared.file_disk.FileDisk.{FileDisk}
-use Rattle.image_layers.specs.Images.{TellsImage, image_disk_state}
+use Rattle.image_layers.specs.Images.{IfFileTells, TellsImage, image_disk_state}
 use Rattle.image_layers.specs.declared.image_disks.ImageDisk.{ImageDisk}
 use Rattle.image_layers.specs.declared.image_disks.ImageDisk.TheVariants.{Plain, Behind, Join}
-use Rattle.image_run.specs.Surviving.{IfFileTells}
 use Rattle.nbd_session.proofs.Durable.{session-survives}
 use Rattle.nbd_session.proofs.Lasting.{closed_survives}
 use Rattle.nbd_session.specs.Requests.{Exchange, Side, ServesExchanges}

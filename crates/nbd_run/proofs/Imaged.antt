@@ -10,17 +10,17 @@ use Rattle.command_rows.specs.Vocabulary.{Attached, IsKeying, Refusal}
 use Rattle.command_rows.specs.World.{Idle, IsAttached, Reach, reach_of}
 use Rattle.command_words.specs.declared.commands.Command.{Command}
 use Rattle.file_edge.specs.FileDisk as file
+use Rattle.file_edge.specs.FileCabinet.{new_cabinet}
 use Rattle.file_edge.specs.Names.{IsRandom, NamedFiles}
-use Rattle.file_edge.specs.RandomFile.{left_in}
+use Rattle.file_edge.specs.RandomFile.{left_in, new_entropy}
 use Rattle.file_edge.specs.declared.file_disk.FileDisk.{FileDisk}
 use Rattle.file_edge.specs.declared.found.FileId.{FileId}
 use Rattle.file_edge.specs.declared.image_file.ImageFile as image_file
 use Rattle.file_edge.specs.declared.opener.Opener as opener
 use Rattle.file_edge.specs.declared.random_file.RandomFile.{RandomFile}
 use Rattle.image_layers.proofs.Opened.{images_stay}
-use Rattle.image_layers.specs.Images.{TellsImage, image_disk_state}
+use Rattle.image_layers.specs.Images.{OpensNamed, TellsImage, image_disk_state}
 use Rattle.image_layers.specs.declared.image_disks.ImageDisk.{ImageDisk}
-use Rattle.image_run.specs.Program.{OpensNamed, new_cabinet, new_entropy}
 use Rattle.nbd_session.specs.Requests.{side_of}
 use Rattle.reply_text.specs.Text.{refusal_text}
 use Rattle.shelf.specs.Shelved.{attachment_of}

@@ -14,17 +14,16 @@ use Rattle.command_words.specs.declared.commands.Command.{Command}
 use Rattle.eli_base.specs.Keying.{Keying}
 use Rattle.eli_base.specs.declared.refusals.Refusal.{Refusal}
 use Rattle.file_edge.specs.Asked.{Asked}
+use Rattle.file_edge.specs.FileCabinet.{new_cabinet}
 use Rattle.file_edge.specs.Names.{IsRandom}
-use Rattle.file_edge.specs.RandomFile.{left_in}
+use Rattle.file_edge.specs.RandomFile.{left_in, new_entropy}
 use Rattle.file_edge.specs.declared.file_disk.FileDisk.{FileDisk}
 use Rattle.file_edge.specs.declared.found.FileId.{FileId}
 use Rattle.file_edge.specs.declared.image_file.ImageFile as image_file
 use Rattle.file_edge.specs.declared.opener.Opener as opener
 use Rattle.file_edge.specs.declared.random_file.RandomFile.{RandomFile}
-use Rattle.image_layers.specs.Images.{AsksPart, TellsImage, image_disk_state}
+use Rattle.image_layers.specs.Images.{AsksPart, IfFileTells, OpensNamed, TellsImage, image_disk_state}
 use Rattle.image_layers.specs.declared.image_disks.ImageDisk.{ImageDisk}
-use Rattle.image_run.specs.Program.{OpensNamed, new_cabinet, new_entropy}
-use Rattle.image_run.specs.Surviving.{IfFileTells}
 use Rattle.nbd_session.specs.Durable.{Survives}
 use Rattle.nbd_session.specs.Lasting.{SurvivesClosed}
 use Rattle.nbd_session.specs.Requests.{Exchange, Side}

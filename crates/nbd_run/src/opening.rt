@@ -1,10 +1,10 @@
 //! The image is opened, and then the random bytes.
 ghost use Rattle.std.specs.Prelude.{◌≡◌, ◌∷◌, [], IfErr, IfOk, not, string_bytes};
+ghost use Rattle.file_edge.specs.FileCabinet.{new_cabinet};
 ghost use Rattle.file_edge.specs.Names.{IsRandom};
-ghost use Rattle.file_edge.specs.RandomFile.{left_in};
-ghost use Rattle.image_layers.specs.Images.{AsksPart, TellsImage};
+ghost use Rattle.file_edge.specs.RandomFile.{left_in, new_entropy};
+ghost use Rattle.image_layers.specs.Images.{AsksPart, OpensNamed, TellsImage};
 ghost use Rattle.nbd_run.specs.Words.{attaches_readonly};
-ghost use Rattle.image_run.specs.Program.{OpensNamed, new_cabinet, new_entropy};
 
 use crate::words::{Asked, is_read_only};
 use block_traits::{Cabinet, Disk, Entropy, NoMemory};

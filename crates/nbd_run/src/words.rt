@@ -6,8 +6,7 @@ ghost use Rattle.command_words.specs.Places.{CommandIsWithin, ProviderIsText, pr
 ghost use Rattle.nbd_run.specs.Words.{AsksForNothing, AsksToAttach, attach_words, attaches, attaches_readonly, wish_of};
 
 use block_traits::NoMemory;
-use command_words::{Command, provider_name};
-use geli_core::{Words, read_words};
+use command_words::{Command, Words, provider_name, read_words};
 use std::alloc::Global;
 
 /// What is printed if the words ask for nothing else.

@@ -1,5 +1,5 @@
 use Rattle.std.proofs.Common.{refl, rules}
-use Rattle.geli_core.specs.Words.{image_names_of}
+use Rattle.command_words.specs.Said.{image_names_of}
 use Rattle.image_run.specs.Program.{changes_said}
 use Rattle.image_layers.proofs.Opened.{nothing_asked}
 use Rattle.image_run.proofs.opening.make_ready.Goals as goal

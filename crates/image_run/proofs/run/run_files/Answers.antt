@@ -1,12 +1,12 @@
 -- What was opened is what the run is over.
 use Rattle.std.proofs.Common.{◌≡◌, ◌∙◌, Option, ap, inl, inr, length, map, refl, rules, string_bytes, sym}
 use Rattle.std.proofs.lemmas.List.{length-map}
+use Rattle.command_words.proofs.Said.{names_said}
 use Rattle.geli_core.proofs.ImageNames.{images_fit}
 use Rattle.geli_core.proofs.Lawful.{run_ends}
-use Rattle.geli_core.proofs.Said.{names_said}
 use Rattle.image_layers.proofs.Opened.{as_many, nothing_asked}
+use Rattle.file_edge.specs.FileCabinet.{new_cabinet}
 use Rattle.file_edge.specs.Names.{NamedFiles}
-use Rattle.image_run.specs.Program.{new_cabinet}
 use Rattle.image_run.proofs.Ended.{read_failed, write_failed}
 use Rattle.image_run.proofs.Images.{opened_told, over_new, same_outside}
 use Rattle.image_run.proofs.Saying.{same_changes}

@@ -1,10 +1,12 @@
 -- What words say names the images that they name.
 use Rattle.std.proofs.Common.{◌≡◌, ◌∙◌, ap, sym, List, ℕ, Option, option_and_then}
-use Rattle.command_rows.specs.Vocabulary.{Command, provider_of}
-use Rattle.geli_core.specs.Vocabulary.{command_in, image_names, line_of, name_at, names_or}
-use Rattle.geli_core.specs.Words.{Says, image_names_of}
-use Rattle.geli_core.specs.declared.words.Words.{Words}
-use Rattle.geli_core.specs.declared.words.Words.TheVariants.{Script, One, Usage}
+use Rattle.command_words.specs.Images.{image_names, line_of, name_at, names_or}
+use Rattle.command_words.specs.Places.{provider_of}
+use Rattle.command_words.specs.Reading.{command_in}
+use Rattle.command_words.specs.Said.{Says, image_names_of}
+use Rattle.command_words.specs.declared.commands.Command.{Command}
+use Rattle.command_words.specs.declared.words.Words.{Words}
+use Rattle.command_words.specs.declared.words.Words.TheVariants.{Script, One, Usage}
 
 pub names_said : (words : List (List ℕ)) (said : Words) → Says words said → image_names_of said ≡ image_names words
 names_said words (Script names) is =

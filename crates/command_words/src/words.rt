@@ -3,10 +3,12 @@ ghost use Rattle.std.specs.Prelude.{◌≡◌, IfOk, length, map, string_bytes};
 ghost use Rattle.command_words.specs.Bounds.{IsBounded};
 ghost use Rattle.command_words.specs.Images.{name_at};
 ghost use Rattle.command_words.specs.Places.{CommandIsWithin, ProviderIsText, provider_of};
-ghost use Rattle.geli_core.specs.Words.{FitsItsLine, Says, image_names_of};
+ghost use Rattle.command_words.specs.Said.{FitsItsLine, Says, image_names_of};
 
+use crate::commands::Command;
+use crate::images::{copied_names, joined, provider_name, script_images};
+use crate::lines::command_in;
 use block_traits::NoMemory;
-use command_words::{Command, command_in, copied_names, joined, provider_name, script_images};
 use std::alloc::Global;
 
 /// What the words of the command line say.

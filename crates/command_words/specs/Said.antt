@@ -1,10 +1,11 @@
 -- What words say, once they are read.
 use Rattle.std.specs.Prelude.{◌≡◌, ℕ, List, [], length, map, string_bytes, None, Some}
-use Rattle.command_rows.specs.Vocabulary.{CommandIsWithin, ProviderIsText, provider_of}
 use Rattle.command_words.specs.Bounds.{IsBounded}
-use Rattle.geli_core.specs.Vocabulary.{command_in, line_of, name_at, script_images}
-use Rattle.geli_core.specs.declared.words.Words.{Words}
-use Rattle.geli_core.specs.declared.words.Words.TheVariants.{Script, One, Usage}
+use Rattle.command_words.specs.Images.{line_of, name_at, script_images}
+use Rattle.command_words.specs.Places.{CommandIsWithin, ProviderIsText, provider_of}
+use Rattle.command_words.specs.Reading.{command_in}
+use Rattle.command_words.specs.declared.words.Words.{Words}
+use Rattle.command_words.specs.declared.words.Words.TheVariants.{Script, One, Usage}
 
 -- what these words say: a script, one command that stands in their line, or neither
 abbrev pub Says : List (List ℕ) → Words → Type 0

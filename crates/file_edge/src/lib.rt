@@ -1,5 +1,5 @@
 //! The trusted edge: the system's files and streams as disks, a cabinet, sources, sinks and entropy, over whatever
-//! opens files.
+//! opens files; and the words of the command line.
 #![tactic(auto)]
 
 mod ask;

@@ -100,8 +100,8 @@ ReadsFrom-fault (Some c) now k sector m n rest a offset same h g =
 
 -- ---- faults, after sectors that were read
 
--- the first fault of n sectors, after m that were read, is the first fault of these m + n, and of the sectors after them
--- too
+-- the first fault of n sectors, after m that were read, is the first fault of all m + n, and of those with more sectors
+-- after them
 pub RunFault-behind : (k : Keying) (sector m n rest offset : ℕ) (a : List ℕ) (first middle last : DiskState) → Counted (m * units k) first.reads middle.reads → Logs [] first middle → ReadsAs first k sector m (Ok a)
     → RunFault k (sector + m) n offset middle last → RunFault k sector (m + n + rest) offset first last
 RunFault-behind k sector m n rest offset a first middle last asked logs so fault = record {

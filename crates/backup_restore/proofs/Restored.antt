@@ -1,4 +1,4 @@
--- Of what use the metadata of a backup are, and what the last sector holds once they are written.
+-- That the metadata of a backup are read back, and what the last sector holds once they are written.
 use Rattle.std.proofs.Common.{◌≡◌, ℕ, zero, suc, ◌*◌, ◌≤◌, List, [], ◌∷◌, ◌++◌, length, take, refl, ap, sym, subst, ◌∙◌, arith, cond, true, false, Bool, Result, Ok, Err, length-append}
 use Rattle.std.proofs.Math.Seq.{take-append_seam}
 use Rattle.std.proofs.lemmas.List.{length-take-le}
@@ -24,7 +24,7 @@ use Rattle.backup_restore.specs.Restoring.{AreAllBytes, GivesMetadata, IsBackedU
 
 -- ---- the sector of a backup
 
--- it begins with the first 511 bytes
+-- the sector of a backup begins with the first 511 bytes of the backup
 first_511 : (bytes : List ℕ) → 511 ≤ length bytes → take 511 (backed_up_sector bytes) ≡ take 511 bytes
 first_511 bytes long =
     let whole : length (take 511 bytes) ≡ 511 = length-take-le 511 bytes long in
@@ -43,9 +43,9 @@ AreBytes-cut (suc n) [] fit (suc k) = omega arith
 AreBytes-cut (suc n) (x ∷ numbers) fit zero = fit 0
 AreBytes-cut (suc n) (x ∷ numbers) fit (suc k) = AreBytes-cut n numbers (λ j. fit (suc j)) k
 
--- ---- what is read of a sector
+-- ---- what is read from a sector
 
--- of three tests all hold
+-- all of three tests hold
 three_hold : (a b c : Bool) (value other : Metadata) (x y z : MetaFault) → cond a (cond b (cond c (Ok value) (Err z)) (Err y)) (Err x) ≡ Ok other
     → (a ≡ true) × (b ≡ true) × (c ≡ true) × (value ≡ other)
 three_hold true true true value other x y z e = (refl, refl, refl, cc e)
@@ -75,7 +75,7 @@ same_unless : (check : Result (Unit {0}) MetaFault) (n m : Metadata) → unless_
 same_unless (Ok done) n m e = cc e
 same_unless (Err fault) n m e = absurd (cc e)
 
--- the metadata, and that they are those that were read, unless forced
+-- the metadata that result have the version and the flags of those that were read, and are the same unless forced
 record IsFitted (found : Result Metadata MetaFault) (force : Bool) (m : Metadata) : Type 0 where
   n : Metadata
   was : found ≡ Ok n
@@ -92,7 +92,7 @@ fitted_by (Ok n) false sectors m e =
     let is : n ≡ m = same_unless (size_matches n sectors) n m e in
     record { n = n; was = refl; version = sym (ap (λ (x : Metadata). x.version) is); flags = sym (ap (λ (x : Metadata). x.flags) is); same = λ h. is }
 
--- of two tests none holds
+-- none of two tests holds
 none_holds : (a b : Bool) (x y : Refusal) (rest : Result Metadata Refusal) (m : Metadata) → cond a (Err x) (cond b (Err y) rest) ≡ Ok m → (b ≡ false) × (rest ≡ Ok m)
 none_holds false false x y rest m e = (refl, e)
 none_holds false true x y rest m e = absurd (cc e)

@@ -1,4 +1,4 @@
--- What `restore` answers, and what it does to the disk (geli(8), restore).
+-- What `restore` returns, and what it does to the disk (geli(8), restore).
 use Rattle.std.specs.Prelude.{◌≡◌, ℕ, ◌*◌, ◌<◌, nat_lt, if◌then◌else◌, List, [], ◌∷◌, ◌++◌, length, take, slice_index, Bool, true, false, Result, Ok, Err}
 use Rattle.std.specs.Bool.{IsFalse}
 use Rattle.block_traits.specs.Disk.{DiskState, FailsIn, Logs}
@@ -16,13 +16,13 @@ use Rattle.eli_metadata.specs.declared.metadata.Metadata.{Metadata}
 abbrev pub backed_up_sector : List ℕ → List ℕ
 backed_up_sector bytes = take 511 bytes ++ 0 ∷ []
 
--- metadata that are refused if this is a fault
+-- the metadata, unless this is a fault, which refuses them
 abbrev pub unless_fault : Result (Unit {0}) MetaFault → Metadata → Result Metadata Refusal
 unless_fault (Err fault) m = Err (refusal_of fault)
 unless_fault (Ok _) m = Ok m
 
--- the metadata of a backup for an image of so many device sectors: forced, the size becomes the image's; else it has to
--- be it
+-- the metadata of a backup for an image of so many device sectors: if forced, the size becomes the image's; else it has
+-- to be the image's already
 abbrev pub fitted : Result Metadata MetaFault → Bool → ℕ → Result Metadata Refusal
 fitted (Err fault) force sectors = Err (refusal_of fault)
 fitted (Ok m) true sectors = Ok (record m { provsize = 512 * sectors })
@@ -45,8 +45,7 @@ pub record GivesMetadata (bytes : List ℕ) (force : Bool) (sectors : ℕ) (m : 
   pub served : restored bytes force sectors ≡ Ok m
   pub fits : IsWhole m
 
--- of what use metadata from a backup are: they are read again, and where they are not forced their sector is that of
--- the backup
+-- the metadata from a backup are read back, and unless the size is forced, their sector is that of the backup
 pub record IsBackedUp (bytes : List ℕ) (force : Bool) (m : Metadata) : Type 0 where
   pub again : metadata_in (encoded m) ≡ Ok m
   pub plain : IsFalse force → encoded m ≡ backed_up_sector bytes
@@ -64,7 +63,7 @@ pub record WritesPart (bytes : List ℕ) (force : Bool) (disk disk' : DiskState)
   pub fails : FailsIn (replace_events disk m) disk disk'
   pub unasked : disk'.reads ≡ disk.reads
 
--- it is refused, and nothing was done
+-- the backup is refused, and nothing was done
 pub record RefusesBackup (bytes : List ℕ) (force : Bool) (disk : DiskState) (refusal : Refusal) (disk' : DiskState) : Type 0 where
   pub cause : restored bytes force disk.size ≡ Err refusal
   pub unchanged : disk' ≡ disk

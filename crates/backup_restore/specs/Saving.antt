@@ -1,4 +1,4 @@
--- What `backup` answers, and what it does to the disk (geli(8), backup).
+-- What `backup` returns, and what it does to the disk (geli(8), backup).
 use Rattle.std.specs.Prelude.{◌≡◌, ℕ, ◌*◌, ◌<◌, ◌≤◌, List, [], length, Result, Ok, Err}
 use Rattle.block_traits.specs.Causes.{Counted}
 use Rattle.block_traits.specs.Disk.{DiskState, Gives, Logs, last_sector}
@@ -38,7 +38,8 @@ pub record HasNoRoom (before : DiskState) (out : List ℕ) (size : ℕ) (out' : 
   pub out_unchanged : out' ≡ out
   pub unchanged : after ≡ before
 
--- what is handed out was there before, in the case that nothing is read, and else is what was read
+-- what `backup` does, by the cases of what it returns: if nothing is read, the bytes stay as they were; after a failed
+-- read they may be any; and else they are what was read
 abbrev pub Saves : DiskState → List ℕ → Result (Unit {0}) Refusal → List ℕ → DiskState → Type 0
 Saves before out (Ok _) out' after = SavesMetadata before out' after
 Saves before out (Err (TooSmall size)) out' after = HasNoRoom before out size out' after

@@ -1,5 +1,5 @@
-//! What follows of what `restore` did: of what use the metadata are, and what the last sector may hold whenever power
-//! fails.
+//! What follows from what `restore` did: that the metadata are read back, and what the last sector may hold whenever
+//! power fails.
 
 ghost use Rattle.std.specs.Prelude.{ℕ, Bool, List};
 ghost use Rattle.block_traits.specs.Disk.{DiskState, last_sector};
@@ -9,7 +9,7 @@ ghost use Rattle.eli_metadata.specs.Place.{IsSectorOf};
 ghost use Rattle.eli_metadata.specs.declared.metadata.Metadata.{Metadata};
 ghost use Rattle.backup_restore.specs.Restoring.{GivesMetadata, IsBackedUp, WritesBack, WritesPart};
 
-/// The metadata that `restore` writes are read again from their sector, which is that of the backup unless the size
+/// The metadata that `restore` writes are read back from their sector, which is that of the backup unless the size
 /// was forced.
 pub fn what_restore_writes_is_of_use()
     ensures { (bytes : List ℕ) (force : Bool) (sectors : ℕ) (m : Metadata) → GivesMetadata bytes force sectors m →
@@ -17,7 +17,7 @@ pub fn what_restore_writes_is_of_use()
 {}
 
 /// Whenever power fails in `restore`, each value that the last sector may hold is one from before or the new
-/// metadata. Once it's done they are the only one.
+/// metadata. Once `restore` is done, the new metadata are the only value.
 pub fn restore_leaves_old_or_new()
     ensures done { (bytes : List ℕ) (force : Bool) (disk disk' : DiskState) (m : Metadata) → WritesBack bytes force disk m disk' →
         KeepsOldOr (IsSectorOf m) (last_sector disk) disk.content disk'.content × KeepsAlone (encoded m) (last_sector disk) disk'.content }

@@ -1,6 +1,6 @@
-//! The backup of a GELI provider's metadata, and its way back (geli(8)).
+//! Backing up and restoring the metadata of a GELI provider (geli(8)).
 //!
-//! No call takes memory.
+//! No call allocates memory.
 #![tactic(auto)]
 
 mod laws;

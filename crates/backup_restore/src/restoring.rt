@@ -46,18 +46,17 @@ fn check(bytes: &[u8], force: bool, sectors: u64) -> Result<Metadata, Refusal>
 }
 
 /// Puts the metadata of a backup into the last sector of a disk: the first 511 bytes of the backup and a
-/// zero byte. Forced, the size in them becomes the image's, with a new MD5 (geli(8), restore). Answers the
-/// metadata, which are read again (`what_restore_writes_is_of_use`). They keep their version. Nothing is read of
-/// the disk.
+/// zero byte. If forced, the size in them becomes the image's, with a new MD5 (geli(8), restore). Returns the
+/// metadata, which keep their version and can be read back (`what_restore_writes_is_of_use`). The disk isn't read.
 ///
 /// Whenever power fails, the last sector holds what it might hold before or the new metadata
 /// (`restore_leaves_old_or_new`).
 ///
-/// In this order it is refused as `TooSmall` (in bytes), exactly where there are fewer than two device
-/// sectors; as `BackupTooShort` (in bytes), exactly where the backup has fewer than 511 bytes; as `decode`
-/// refuses its first 511; as `BadSize` (in bytes), exactly where the size in the metadata isn't the
-/// image's, unless forced; and then nothing was done; as `DeviceFault`, only where the disk failed, and then
-/// the first of the events were done, and no others.
+/// Refusals are returned in this order: `TooSmall` (in bytes), exactly if there are fewer than two device sectors;
+/// `BackupTooShort` (in bytes), exactly if the backup has fewer than 511 bytes; the refusal of `decode` for the sector
+/// that the backup makes; `BadSize` (in bytes), exactly if the size in the metadata isn't the image's, unless forced;
+/// `DeviceFault`, only if the disk failed, and then the first of the events were done, and no others. After any other
+/// refusal nothing was done.
 pub fn restore<D: Disk>(disk: &mut D, bytes: &[u8], force: bool) -> Result<Metadata, Refusal>
     ensures { Restores bytes.now force (D.state disk.old) result (D.state disk.new) }
 {

@@ -106,7 +106,7 @@ fn one_of<T: Copy>(table: &[(&str, T)], words: &mut Args<Global>) -> Option<T> {
     None
 }
 
-// The next word, as a number; 0 where it is none.
+// The next word as a number, or 0 if it isn't one.
 fn number(words: &mut Args<Global>) -> u64 {
     match words.next() {
         Some(word) => word.parse::<u64>().unwrap_or(0),

@@ -21,7 +21,7 @@ const KEYS: u32 = 1000;
 // The pieces of a slice.
 const PIECES: u32 = 200;
 
-// A ring of these parameters, where there are such.
+// A ring with these parameters, if they are allowed and there is memory.
 fn ring(alloc: Global, auth: Auth, cipher: Cipher, bits: u16, size: u32) -> Option<KeyRing>
     ensures auth { IfSome result (λ ring. ring.keying.auth ≡ auth) }
     ensures size { IfSome result (λ ring. ring.keying.sectorsize ≡ size) }

@@ -1,4 +1,5 @@
--- What a row leaves attached: the same, or nothing, or what has no open request where nothing was attached before.
+-- What a row leaves attached: the same as before, or nothing, or, if nothing was attached before, what has no open
+-- request.
 use Rattle.std.proofs.Common.{Bool, Err, List, None, Ok, Option, Result, Some, [], ap, cond, false, inl, inr, refl, subst, sym, true, ℕ, ◌≡◌, ◌⊎◌}
 use Rattle.eli_base.specs.declared.refusals.Refusal.TheVariants as refusals
 use Rattle.command_rows.specs.Rows.{Answer, AttachedWith, Attachment, GoesOn, Holding, IsAttached, Reach, Replies, TryRow, attachment_in, or_wrong_key, tried}

@@ -69,7 +69,7 @@ unless_none : (good : Bool) (reason : Reason) → cond good None (Some reason) �
 unless_none true reason h = refl
 unless_none false reason h = let no : ⊥ = cc in absurd no
 
--- what a value without a fault keeps, by the kind of its operand
+-- what holds of a value without a fault, by the kind of its operand
 abbrev IsGoodAs : Operand → List ℕ → Type 0
 IsGoodAs Provider bytes = Unit {0}
 IsGoodAs File bytes = Unit {0}
@@ -92,7 +92,7 @@ good_as Digits bytes h = unless_none (is_hexadecimal bytes) BadHex h
 good_as (Job job) bytes h = tt
 good_as Tag bytes h = (number_good 0 31 bytes (unless_none _ BadNumber h)).1
 
--- operands of one kind ask the same of a value
+-- operands of one kind require the same of a value
 same_kind : (wanted operand : Operand) (bytes : List ℕ) → (operand_place wanted == operand_place operand) ≡ true → IsGoodAs operand bytes → IsGoodAs wanted bytes
 same_kind Provider operand bytes is h = tt
 same_kind File operand bytes is h = tt
@@ -141,7 +141,7 @@ found_digits : (line : List ℕ) (found : Option Word) → StandsGood Digits lin
 found_digits line None h = absurd h
 found_digits line (Some word) h = rw (bytes_of_span line word h.1) h.0
 
--- what the operands of a form keep, those that it has
+-- what holds of the operands that a form has
 record Facts (line : List ℕ) (form : List Operand) (words : List Word) : Type 0 where
   pub sector : is_among (operand_place Sector) form ≡ true → number_as Sector form words ≤ 9223372036854775807
   pub few_least : is_among (operand_place FewSectors) form ≡ true → 1 ≤ number_as FewSectors form words
@@ -178,7 +178,7 @@ job_same [] words long = refl
 job_same (operand ∷ form) [] long = absurd (no_length (length form) long)
 job_same (operand ∷ form) (word ∷ words) long = ap (job_or operand) (job_same form words (suc_same _ _ long))
 
--- the numbers of a request that operands without a fault say
+-- the numbers of a request, from operands without a fault
 abbrev IsJobOf : List ℕ → List Word → List Operand → Type 0
 IsJobOf line words form = operands_fault form words ≡ None → IsBoundedJob line (job_at (job_as form words) (operands_of form words))
 

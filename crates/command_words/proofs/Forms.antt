@@ -15,7 +15,7 @@ choice_keeps : (P : List Operand → Type 0) (b : Bool) (own form : List Operand
 choice_keeps P true own form rest h g found = let same : own ≡ form = cc in subst (λ (f : List Operand). P f) same (h refl)
 choice_keeps P false own form rest h g found = g found
 
--- what holds of a form that has so many operands
+-- what holds of a form if it has so many operands
 abbrev pub WhereLong : (List Operand → Type 0) → ℕ → List Operand → Type 0
 WhereLong P count form = (length form == count) ≡ true → P form
 
@@ -37,7 +37,7 @@ either_keeps : (P : List Operand → Type 0) (first second : Option (List Operan
 either_keeps P (Some own) second form h g found = h found
 either_keeps P None second form h g found = g found
 
--- What holds of each form of a verb holds of the one that is found.
+-- What holds of each form of a verb holds of the form that is found.
 pub found_keeps : (P : List Operand → Type 0) (verb : Verb) (words : List Word) (form : List Operand)
     → AllByRecursion (WhereLong P (length words)) (row_of verb).forms → form_of verb words ≡ Some form → P form
 found_keeps P verb words form h found =

@@ -25,7 +25,7 @@ use Rattle.command_words.specs.Pass.{and_then, checked, with_operand, taken_oper
 use Rattle.command_words.proofs.Forms.{found_keeps, where_long}
 use Rattle.command_words.proofs.Options.{outcome}
 
--- each operand in turn
+-- what results from taking each operand in turn
 abbrev put_all : List Operand → List Word → Operands → Operands
 put_all [] words o = o
 put_all (operand ∷ form) [] o = o
@@ -49,12 +49,12 @@ abbrev pub is_among : ℕ → List Operand → Bool
 is_among kind [] = false
 is_among kind (operand ∷ form) = (kind == operand_place operand) || is_among kind form
 
--- whether no kind of operand stands twice
+-- whether no kind of operand occurs twice
 abbrev no_twice : List Operand → Bool
 no_twice [] = true
 no_twice (operand ∷ form) = not (is_among (operand_place operand) form) && no_twice form
 
--- what the words of a form say, over what was there before
+-- what the words of a form say, over the values that were there before
 abbrev job_over : List Operand → List Word → JobName → JobName
 job_over [] words job = job
 job_over (operand ∷ form) [] job = job
@@ -86,7 +86,7 @@ absent_choice : (b : Bool) (word : Word) (rest : Option Word) → b ≡ false �
 absent_choice true word rest h g = let no : ⊥ = cc in absurd no
 absent_choice false word rest h g = g
 
--- no word stands as an operand that isn't there
+-- no word stands as an operand that the form lacks
 absent : (wanted : Operand) (form : List Operand) (words : List Word) → is_among (operand_place wanted) form ≡ false → word_as wanted form words ≡ None
 absent wanted [] words h = refl
 absent wanted (operand ∷ form) [] h = refl
@@ -122,7 +122,7 @@ front_once : (b rest : Bool) → (not b && rest) ≡ true → (b ≡ false) × (
 front_once true rest h = let no : ⊥ = cc in absurd no
 front_once false rest h = (refl, h)
 
--- each operand in turn gives what the whole form says
+-- taking each operand in turn gives what the whole form says
 put_is : (form : List Operand) (words : List Word) (o : Operands) → no_twice form ≡ true → put_all form words o ≡ over form words o
 put_is [] words o h = refl
 put_is (operand ∷ form) [] o h = refl
@@ -130,7 +130,7 @@ put_is (operand ∷ form) (word ∷ words) o h =
     let parts = front_once (is_among (operand_place operand) form) (no_twice form) h in
     put_is form words (with_operand o operand word) parts.1 ∙ in_front operand form word words o parts.0
 
--- in no form of a verb an operand stands twice
+-- no form of a verb has a kind of operand twice
 forms_once : (verb : Verb) → AllByRecursion (λ form. no_twice form ≡ true) (row_of verb).forms
 forms_once verbs.Submit = (refl, (refl, (refl, tt)))
 forms_once _ = (refl, tt)
@@ -150,7 +150,7 @@ operands_taken : (verb : Verb) (form : List Operand) (words : List Word) (s : Se
 operands_taken verb form words s h =
     rw (taken_is form words (operands_of [] []), form_agrees verb words form h) (follow (operands_fault form words) (operands_of form words) (λ read. command_at verb s read))
 
--- What follows the options is what one pass over the operands gives, where they are read by this form.
+-- What follows the options is what one pass over the operands gives, if they are read by this form.
 pub settled_taken : (verb : Verb) (total : ℕ) (form : List Operand) (words : List Word) (s : Settings)
     → form_of verb words ≡ Some form → complaint verb s ≡ None
     → settled verb total s words ≡ and_then (taken_operands form words (operands_of [] [])) (λ read. Ok (command_at verb s read))

@@ -20,7 +20,7 @@ use Rattle.command_words.specs.Settings.{settings_given, last, has_switch, sets}
 use Rattle.command_words.specs.Reading.{settled, by_options, unless_usage}
 use Rattle.command_words.specs.Pass.{value_given, and_then, checked, files_so_far, with_value, with_switch, taken_letter, taken_letters, taken_word, taken_options}
 
--- one value more
+-- the last of the values after one more
 last-push : (words : List Word) (word : Word) → last (words ++ word ∷ []) ≡ Some word
 last-push [] word = refl
 last-push (x ∷ []) word = refl
@@ -68,7 +68,7 @@ settings-push_switch items Force = simp (values-push, has_switch-push, append-ni
 settings-push_switch items Restart = simp (values-push, has_switch-push, append-nil)
 settings-push_switch items Verbose = simp (values-push, has_switch-push, append-nil)
 
--- the fault of a value looks at the files so far alone
+-- the fault of a value depends only on how many files came before, apart from the value
 fault_by_count : (items : List Item) (option : Valued) (bytes : List ℕ) → value_fault option (length (files_so_far (settings_given items) option)) bytes ≡ value_fault option (length (values option items)) bytes
 fault_by_count items AuthName bytes = refl
 fault_by_count items CipherName bytes = refl
@@ -83,7 +83,7 @@ fault_by_count items OldPass bytes = rw length-map
 fault_by_count items FreshFile bytes = rw length-map
 fault_by_count items FreshPass bytes = rw length-map
 
--- the fault, or the value where there is none
+-- the fault, or the value if there is none
 abbrev pub outcome : {A : Type 0} → Option Usage → A → Result A Usage
 outcome (Some usage) value = Err usage
 outcome None value = Ok value
@@ -92,7 +92,7 @@ checked_is : (fault : Option Reason) (number : ℕ) (s : Settings) → checked f
 checked_is None number s = refl
 checked_is (Some reason) number s = refl
 
--- one more option with a value: its fault among those before it, or what they then come to
+-- one more option with a value: its fault after the options before it, or what all of them amount to
 given_is : (items : List Item) (option : Valued) (word : Word) → value_given (settings_given items) option word ≡ outcome (option_fault items (Given option word)) (settings_given (items ++ Given option word ∷ []))
 given_is items option word = rw (fault_by_count items option word.bytes, ← settings-push_value items option word) (checked_is (value_fault option (length (values option items)) word.bytes) word.number (settings_given (items ++ Given option word ∷ [])))
 
@@ -100,7 +100,7 @@ or_else_assoc : {A : Type 0} (a b c : Option A) → or_else a (or_else b c) ≡ 
 or_else_assoc None b c = refl
 or_else_assoc (Some a) b c = refl
 
--- one after others, and then the rest
+-- an item after others, and then the rest
 append_one : (before : List Item) (item : Item) (items : List Item) → before ++ item ∷ [] ++ items ≡ before ++ item ∷ items
 append_one before item items = append_assoc before (item ∷ []) items
 
@@ -110,7 +110,7 @@ first_option_fault-append before (item ∷ items) more =
     rw (first_option_fault-append (before ++ item ∷ []) items more, append_one before item items)
     (or_else_assoc (option_fault before item) (first_option_fault (before ++ item ∷ []) items) (first_option_fault (before ++ item ∷ items) more))
 
--- what the letters of a group come to after some options
+-- what the letters of a group amount to after some options
 abbrev group_outcome : List Item → Group → Result (Settings × Option Valued) Usage
 group_outcome before group = outcome (first_option_fault before group.items) (settings_given (before ++ group.items), group.waiting)
 
@@ -143,7 +143,7 @@ letters_are verb number start (b ∷ bs) before =
     letter_is (letter_of verb b) number (start + 1) bs before (letters verb number (start + 1) bs) (λ next. taken_letters verb number (start + 1) bs next)
     (λ more. letters_are verb number (start + 1) bs more)
 
--- what options and operands come to after some options
+-- what options and operands amount to after some options
 abbrev options_outcome : List Item → Options → Result (Settings × List Word) Usage
 options_outcome before read = outcome (first_option_fault before read.items) (settings_given (before ++ read.items), read.operands)
 

@@ -34,13 +34,13 @@ use Rattle.command_words.specs.Places.{IsWithin, CommandIsWithin, JobIsWithin, K
 abbrev pub Stands : List ℕ → Word → Type 0
 Stands line word = (word.start + length word.bytes ≤ length line) × (take (length word.bytes) (drop word.start line) ≡ word.bytes)
 
--- the parts of a line from there on
+-- the parts of a line from a place on
 abbrev pub Parts : List ℕ → ℕ → List (List ℕ) → Type 0
 Parts line start [] = Unit {0}
 Parts line start (part ∷ parts) =
     (start + length part ≤ length line) × (take (length part) (drop start line) ≡ part) × Parts line (start + length part + 1) parts
 
--- one byte on
+-- the bytes of a line after one more byte
 pub drop_one : (line : List ℕ) (start x : ℕ) (xs : List ℕ) → drop start line ≡ x ∷ xs → drop (start + 1) line ≡ xs
 drop_one line start x xs e = sym (drop-drop 1 start line) ∙ ap (λ rest. drop 1 rest) e
 
@@ -236,7 +236,7 @@ job_within line jobs.Read o h = tt
 job_within line jobs.Write o h = h
 job_within line jobs.Flush o h = tt
 
--- where the places lie that options and operands say
+-- the spans of the options and the operands lie in the line
 record AreWithin (len : ℕ) (s : Settings) (o : Operands) : Type 0 where
   pub prov : IsWithin len o.prov
   pub file : IsWithin len o.file
@@ -281,7 +281,7 @@ form_keeps Q None verb total s words h = tt
 form_keeps Q (Some form) verb total s words h =
     complaint_keeps Q (complaint verb s) total _ (λ good. fault_keeps Q (operands_fault form words) _ (λ none. h form refl good none))
 
--- where options and operands have no fault
+-- what holds of the command holds of the result, which is an error if options or operands have a fault
 pub verb_keeps : (Q : Command → Type 0) (fault : Option Usage) (verb : Verb) (total : ℕ) (s : Settings) (words : List Word)
     → (fault ≡ None → (form : List Operand) → form_of verb words ≡ Some form → complaint verb s ≡ None → operands_fault form words ≡ None → Q (command_at verb s (operands_of form words)))
     → IfOk (unless_usage fault (settled verb total s words)) Q

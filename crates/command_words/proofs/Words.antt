@@ -33,7 +33,7 @@ pub first_part : (p : ℕ → Bool) (xs : List ℕ) → slice_split p xs ≡ tak
 first_part p [] = refl
 first_part p (x ∷ xs) = one_more (p x) x xs (position_or_len p xs) (slice_split p xs) (slice_split p) (first_part p xs) refl
 
--- where the first part is a word, it is the first word
+-- if the first part is a word, it is the first word
 pub word_taken : (sep : Sep) (rest : List ℕ) (number start n : ℕ) → n ≡ position_or_len (is_between sep) rest → is_word sep (take n rest) ≡ true
     → placed_words sep number start (slice_split (is_between sep) rest) ≡ record { number = number; start = start; bytes = take n rest } ∷ placed_words sep (number + 1) (start + n + 1) (parts_behind sep n rest)
 word_taken sep rest number start n e h =

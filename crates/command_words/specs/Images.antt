@@ -6,25 +6,25 @@ use Rattle.command_words.specs.declared.spans.Span.{Span}
 use Rattle.command_words.specs.Reading.{command_in}
 use Rattle.command_words.specs.Places.{provider_of, bytes_at}
 
--- the line of some words, which stand between zero bytes
+-- the line of some words, joined by zero bytes
 abbrev pub line_of : List (List ℕ) → List ℕ
 line_of words = join_with_byte 0 words
 
--- the name at a place of the line, if there is a place
+-- the name that a span of the line covers, if there is a span
 abbrev pub name_at : List ℕ → Option Span → List (List ℕ)
 name_at line None = []
 name_at line (Some span) = bytes_at line span ∷ []
 
--- whether no name stands twice
+-- whether no name occurs twice
 abbrev pub all_differ : List (List ℕ) → Bool
 all_differ [] = true
 all_differ (name ∷ names) = not (list_any (bytes_eq name) names) && all_differ names
 
--- whether names may be those of a script's images: 1 to 16 different ones
+-- whether these can be the names of a script's images: 1 to 16 different names
 abbrev pub are_images : List (List ℕ) → Bool
 are_images names = nat_le 1 (length names) && nat_le (length names) 16 && all_differ names
 
--- the names after `script`, where the words are that and names that a script's images may have
+-- the names after `script`, if the words are that and names that a script's images can have
 abbrev pub script_images : List (List ℕ) → Option (List (List ℕ))
 script_images [] = None
 script_images (word ∷ names) = if bytes_eq word (codes "script") && are_images names then Some names else None
@@ -33,8 +33,7 @@ abbrev pub names_or : Option (List (List ℕ)) → List (List ℕ) → List (Lis
 names_or (Some names) others = names
 names_or None others = others
 
--- the images that words name: those of a script, or else the provider of the one command, if they are one and it has
--- one
+-- the images that words name: those of a script, or else, if the words are one command, its provider, if it has one
 abbrev pub image_names : List (List ℕ) → List (List ℕ)
 image_names words =
     names_or (script_images words) (name_at (line_of words) (option_and_then provider_of (command_in (line_of words))))

@@ -20,7 +20,7 @@ operands_fault (operand ∷ form) [] = None
 operands_fault (operand ∷ form) (word ∷ words) =
     or_else (option_map (λ reason. record { word = word.number; reason = reason }) (operand_fault operand word.bytes)) (operands_fault form words)
 
--- the number of an operand, which tells operands apart
+-- the number of an operand, which distinguishes operands
 abbrev pub operand_place : Operand → ℕ
 operand_place Provider = 0
 operand_place File = 1
@@ -60,7 +60,7 @@ job_as [] words = jobs.Flush
 job_as (operand ∷ form) [] = jobs.Flush
 job_as (operand ∷ form) (word ∷ words) = job_or operand (job_as form words)
 
--- what the operands of a form come to
+-- what the operands of a form amount to
 abbrev pub operands_of : List Operand → List Word → Operands
 operands_of form words = record {
   prov = span_as Provider form words;

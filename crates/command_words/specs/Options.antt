@@ -14,8 +14,9 @@ use Rattle.command_words.specs.Table.{letter_of}
 use Rattle.command_words.specs.Values.{value_fault}
 use Rattle.command_words.specs.Words.{Word}
 
--- what the options of a line say, one by one: an option without a value, one with its value, a letter that the
--- verb doesn't have, by its word, or a value that no word is left for, by the number of words
+-- what the options of a line say, one by one: an option without a value; an option with its value; a letter that the
+-- verb doesn't have, with the number of its word; or an option for whose value no word is left, with the number of
+-- words
 pub data Item : Type 0 where
   Set : Switch → Item
   Given : Valued → Word → Item
@@ -27,7 +28,8 @@ pub record Group : Type 0 where
   pub items : List Item
   pub waiting : Option Valued
 
--- A letter before the rest of its group, which starts there. With a value it takes the rest, or the next word.
+-- A letter before the rest of its group, which starts at this place. An option with a value takes the rest of the
+-- group, or else the next word.
 abbrev pub with_letter : Option Letter → ℕ → ℕ → List ℕ → Group → Group
 with_letter None number start rest group = record { items = Unknown number ∷ []; waiting = None }
 with_letter (Some (Alone switch)) number start rest group = record { items = Set switch ∷ group.items; waiting = group.waiting }
@@ -35,7 +37,7 @@ with_letter (Some (WithValue option)) number start [] group = record { items = [
 with_letter (Some (WithValue option)) number start (b ∷ bs) group =
     record { items = Given option (record { number = number; start = start; bytes = b ∷ bs }) ∷ []; waiting = None }
 
--- the letters of a group, which start there
+-- the letters of a group, which start at this place
 abbrev pub letters : Verb → ℕ → ℕ → List ℕ → Group
 letters verb number start [] = record { items = []; waiting = None }
 letters verb number start (b ∷ bs) = with_letter (letter_of verb b) number (start + 1) bs (letters verb number (start + 1) bs)
@@ -67,14 +69,15 @@ with_word (Letters bytes) verb word behind rest =
     let group = letters verb word.number (word.start + 1) bytes in onto group.items (rest group.waiting)
 with_word Other verb word behind rest = record { items = []; operands = word ∷ behind }
 
--- The options of a verb among its words, where an option may wait for its value. The line has so many words.
+-- The options of a verb among its words, if an option before these words may wait for its value. The line has so many
+-- words.
 abbrev pub options : Verb → ℕ → List Word → Option Valued → Options
 options verb total [] None = record { items = []; operands = [] }
 options verb total [] (Some option) = record { items = Missing total ∷ []; operands = [] }
 options verb total (word ∷ behind) (Some option) = onto (Given option word ∷ []) (options verb total behind None)
 options verb total (word ∷ behind) None = with_word (kind_of word.bytes) verb word behind (λ waiting. options verb total behind waiting)
 
--- the number of an option, which tells options apart
+-- the number of an option, which distinguishes options
 abbrev pub place : Valued → ℕ
 place AuthName = 0
 place CipherName = 1

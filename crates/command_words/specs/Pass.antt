@@ -28,7 +28,8 @@ use Rattle.command_words.specs.Options.{Kind, Ends, Letters, Other, kind_of}
 use Rattle.command_words.specs.Settings.{span_of, backup_of}
 use Rattle.command_words.specs.Operands.{no_span}
 
--- What one pass over the words keeps. These speak of the private functions alone; what a line says is `reading`.
+-- What one pass over the words keeps. These definitions are about the private functions alone; what a line says is
+-- defined by `reading`.
 
 -- the files that an option was given so far
 abbrev pub files_so_far : Settings → Valued → List Span
@@ -94,7 +95,7 @@ abbrev pub and_then : {A B : Type 0} → Result A Usage → (A → Result B Usag
 and_then (Ok value) next = next value
 and_then (Err usage) next = Err usage
 
--- a group of letters, from there on
+-- a group of letters, from this place on
 abbrev pub with_rest : Settings → Valued → ℕ → ℕ → List ℕ → Result (Settings × Option Valued) Usage
 with_rest s option number start [] = Ok (s, Some option)
 with_rest s option number start (b ∷ bs) =
@@ -122,7 +123,7 @@ taken_options verb total [] s (Some option) = Err (record { word = total; reason
 taken_options verb total (word ∷ behind) s (Some option) = and_then (value_given s option word) (λ next. taken_options verb total behind next None)
 taken_options verb total (word ∷ behind) s None = taken_word (kind_of word.bytes) verb word behind s (λ next waiting. taken_options verb total behind next waiting)
 
--- what a word is, as the code tells it
+-- what a word is, from what the code returns
 abbrev pub kind_seen : WordKind → Kind
 kind_seen Here.Ends = Ends
 kind_seen (Here.Letters bytes) = Letters bytes.now
@@ -147,6 +148,6 @@ taken_operands (operand ∷ form) [] o = Ok o
 taken_operands (operand ∷ form) (word ∷ words) o =
     and_then (checked (operand_fault operand word.bytes) word.number (with_operand o operand word)) (λ next. taken_operands form words next)
 
--- the operands of a line that has a provider alone
+-- the operands of a line whose only operand is a provider
 abbrev pub provider_alone : Span → Operands
 provider_alone prov = record { prov = prov; file = no_span; digits = no_span; seed = 0; sector = 0; few = 0; many = 0; job = jobs.Flush; tag = 0 }

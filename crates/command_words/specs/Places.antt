@@ -1,4 +1,4 @@
--- That the places of a command lie within the line.
+-- That the spans of a command lie within the line.
 pub use Rattle.command_words.specs.Spans.{IsWithin, JobIsWithin, KeyIsWithin, bytes_at}
 use Rattle.std.specs.Prelude.{IfSome, List, Option, ℕ}
 use Rattle.std.specs.Str.{IsUtf8}

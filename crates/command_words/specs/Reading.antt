@@ -1,4 +1,4 @@
--- A line to a command, or what is wrong with it.
+-- From a line to a command, or to what is wrong with the line.
 use Rattle.std.specs.Prelude.{ℕ, ◌+◌, List, [], ◌∷◌, length, Bool, true, false, not, ◌&&◌, ◌||◌, ◌==◌, nat_le, is_some, if◌then◌else◌, Option, None, Some, Result, Ok, Err}
 use Rattle.std.specs.Str.{is_utf8}
 use Rattle.eli_base.specs.declared.Reason.{Reason}
@@ -21,7 +21,7 @@ use Rattle.command_words.specs.Options.{Options, options, first_option_fault}
 use Rattle.command_words.specs.Operands.{operands_fault, operands_of}
 use Rattle.command_words.specs.Settings.{settings_given}
 
--- whether an option that must be there lacks
+-- whether an option that must be there is missing
 abbrev pub lacks_option : Rule → Settings → Bool
 lacks_option Free settings = false
 lacks_option NeedsOldSize settings = not (is_some settings.oldsize)
@@ -32,11 +32,11 @@ abbrev pub has_files : List Span → Bool
 has_files [] = false
 has_files (span ∷ spans) = true
 
--- whether the words of a key name passphrases and go without one
+-- whether the words of a key both name passphrase files and rule a passphrase out
 abbrev pub excludes_itself : KeyWords → Bool
 excludes_itself key = key.without && has_files key.pass
 
--- whether two options that exclude each other under one verb alone are there: what `init` writes has no iterations
+-- whether two options are there that exclude each other only under this verb's rule: `init` writes no iterations
 -- without a passphrase, and `delkey` names all slots or one
 abbrev pub excludes_own : Rule → Settings → Bool
 excludes_own Free settings = false
@@ -44,7 +44,7 @@ excludes_own NeedsOldSize settings = false
 excludes_own PassWithIterations settings = settings.fresh_key.without && is_some settings.iterations
 excludes_own SlotOrAll settings = settings.all && is_some settings.slot
 
--- whether two options of a verb exclude each other
+-- whether two options of a verb are there that exclude each other
 abbrev pub excludes : Verb → Settings → Bool
 excludes verb settings = excludes_itself settings.old_key || excludes_itself settings.fresh_key || excludes_own (row_of verb).rule settings
 
@@ -52,16 +52,16 @@ excludes verb settings = excludes_itself settings.old_key || excludes_itself set
 abbrev pub complaint : Verb → Settings → Option Reason
 complaint verb settings = if lacks_option (row_of verb).rule settings then Some MissingOption else (if excludes verb settings then Some Exclusive else None)
 
--- the command of a verb, by what its options and its operands come to
+-- the command of a verb, by what its options and its operands amount to
 abbrev pub command_at : Verb → Settings → Operands → Command
 command_at verb s o = (row_of verb).command s o
 
--- the fault, or what follows without one
+-- the fault, or what follows if there is none
 abbrev pub unless_usage : Option Usage → Result Command Usage → Result Command Usage
 unless_usage (Some usage) result = Err usage
 unless_usage None result = result
 
--- what follows, or what is wrong at the end of the words
+-- what is wrong with the options together, reported at the end of the words, or what follows if nothing is
 abbrev pub or_complaint : Option Reason → ℕ → Result Command Usage → Result Command Usage
 or_complaint (Some reason) total result = Err (record { word = total; reason = reason })
 or_complaint None total result = result
@@ -72,7 +72,8 @@ by_form None verb total settings words = Err (record { word = total; reason = Op
 by_form (Some form) verb total settings words =
     or_complaint (complaint verb settings) total (unless_usage (operands_fault form words) (Ok (command_at verb settings (operands_of form words))))
 
--- what follows the options: how many operands there are, the options together, and then the operands from left to right
+-- what is checked after the options: how many operands there are, the options together, and then the operands from left
+-- to right
 abbrev pub settled : Verb → ℕ → Settings → List Word → Result Command Usage
 settled verb total settings words = by_form (form_of verb words) verb total settings words
 
@@ -101,7 +102,7 @@ by_words sep is_text (word ∷ behind) =
     else (if is_text then some_command (by_verb (verb_named word.bytes) (1 + length behind) behind)
     else Err (record { word = 0; reason = NotText }))
 
--- what a line says: nothing, a command, or why it is none
+-- what a line says: nothing, a command, or why it isn't one
 abbrev pub line_reading : Sep → List ℕ → Result (Option Command) Usage
 line_reading sep line = by_words sep (is_utf8 line) (words sep line)
 
@@ -114,6 +115,6 @@ said (Err usage) = None
 abbrev pub line_limit : ℕ
 line_limit = 300000
 
--- The command of a line whose words stand between zero bytes. A line that is too long says none.
+-- The command of a line whose words are separated by zero bytes. A line that is too long has none.
 abbrev pub command_in : List ℕ → Option Command
 command_in line = if nat_le (length line) line_limit then said (line_reading Zeros line) else None

@@ -19,7 +19,7 @@ use Rattle.command_words.specs.Options.{Item, Set, Given, Unknown, Missing, valu
 abbrev pub span_of : Word → Span
 span_of word = record { start = word.start; end = word.start + length word.bytes; word = word.number }
 
--- of an option with one value the last one counts
+-- for an option that has one value the last one given counts
 abbrev pub last : List Word → Option Word
 last [] = None
 last (word ∷ []) = Some word
@@ -28,7 +28,7 @@ last (word ∷ next ∷ words) = last (next ∷ words)
 abbrev pub last_value : Valued → List Item → Option Word
 last_value option items = last (values option items)
 
--- the number of an option without a value, which tells them apart
+-- the number of an option without a value, which distinguishes these options
 abbrev pub switch_place : Switch → ℕ
 switch_place WithoutOld = 0
 switch_place WithoutFresh = 1
@@ -58,7 +58,7 @@ backup_of word = if bytes_eq word.bytes (codes "none") then None else Some (span
 abbrev pub option_files : Valued → List Item → List Span
 option_files option items = map span_of (values option items)
 
--- what options without a fault come to
+-- what options without a fault amount to
 abbrev pub settings_given : List Item → Settings
 settings_given items = record {
   auth = unwrap_or (option_and_then (λ word. auth_named word.bytes) (last_value AuthName items)) Off;

@@ -1,4 +1,4 @@
--- Where places lie in a line, and within which bounds its numbers and digits do.
+-- That spans lie in a line, and within which bounds its numbers and digits lie.
 use Rattle.std.specs.Prelude.{All, IsTrue, List, slice_range, ℕ, ◌%◌, ◌≡◌, ◌≤◌}
 use Rattle.command_words.specs.declared.commands.JobWords.{JobWords}
 use Rattle.command_words.specs.declared.commands.JobWords.TheVariants as jobs
@@ -24,11 +24,11 @@ JobIsWithin len jobs.Flush = Unit {0}
 abbrev pub bytes_at : List ℕ → Span → List ℕ
 bytes_at line span = slice_range line span.start span.end
 
--- what numbers of sectors keep: the first sector, and how many there are, at most so many
+-- what numbers of sectors keep to: the number of the first sector, and how many sectors there are, at most so many
 abbrev pub AreSectors : ℕ → ℕ → ℕ → Type 0
 AreSectors most first count = (first ≤ 9223372036854775807) × (1 ≤ count) × (count ≤ most)
 
--- what a size of an image before it grew keeps
+-- what the size of an image before it grew keeps to
 abbrev pub IsOldSize : ℕ → Type 0
 IsOldSize size = (1024 ≤ size) × (size ≤ 9007199254740480) × (size % 512 ≡ 0)
 

@@ -28,8 +28,8 @@ use Rattle.command_words.specs.Words.{Word}
 use Rattle.command_words.specs.Values.{job_name}
 
 -- a line of the table of verbs: the verb, its name, the letters without a value, the letters with a value, what the
--- options have to be together, the operands in order, in each form that the verb has, and the command, by what options
--- and operands come to; forms differ by how many operands they have, or by the name of a job
+-- options have to fulfil together, the operands in order, in each form that the verb has, and the command, by what
+-- options and operands amount to; forms differ by how many operands they have, or by the name of a job
 pub record Row : Type 0 where
   pub verb : Verb
   pub name : List ℕ
@@ -42,7 +42,7 @@ pub record Row : Type 0 where
 abbrev pub row : Verb → List ℕ → List (ℕ × Switch) → List (ℕ × Valued) → Rule → List (List Operand) → (Settings → Operands → Command) → Row
 row verb name alone valued rule forms command = record { verb = verb; name = name; alone = alone; valued = valued; rule = rule; forms = forms; command = command }
 
--- a job of this name, by what the operands come to
+-- a job of this name, by what the operands amount to
 abbrev pub job_at : JobName → Operands → JobWords
 job_at jobs.Read o = job_words.Read o.sector o.few
 job_at jobs.Write o = job_words.Write o.sector o.digits
@@ -94,15 +94,15 @@ table =
     row verbs.Verify (codes "verify") ((byte "r", Restart) ∷ (byte "v", Verbose) ∷ []) [] Free ((Provider ∷ File ∷ ManySectors ∷ []) ∷ [])
     (λ s o. commands.Verify o.prov o.file o.many s.restart) ∷ []
 
--- what stands for the row of a verb for which the table has no place; `Verb::row` ensures that each has its own
+-- the row of a verb that isn't in the table; there is none, since `Verb::row` ensures that each verb has its own row
 abbrev pub row_of_none : Row
 row_of_none = row verbs.List [] [] [] Free [] (λ s o. commands.List)
 
--- the row of a verb: it stands in the table where the verb stands among all, as the code declares them
+-- the row of a verb: the table has the rows in the order in which the code declares the verbs
 abbrev pub row_of : Verb → Row
 row_of verb = get_or table (tag_of the_type verb) row_of_none
 
--- the verb of a name among verbs with their names
+-- the verb of a name, in a list of verbs with their names
 abbrev pub named_among : List ℕ → List (Verb × List ℕ) → Option Verb
 named_among name [] = None
 named_among name (e ∷ es) = if bytes_eq name e.1 then Some e.0 else named_among name es
@@ -111,7 +111,7 @@ named_among name (e ∷ es) = if bytes_eq name e.1 then Some e.0 else named_amon
 abbrev pub verb_named : List ℕ → Option Verb
 verb_named name = named_among name (map (λ row. (row.verb, row.name)) table)
 
--- what a letter means among others
+-- what a letter means in a list of letters
 abbrev pub entry : {V : Type 0} → ℕ → List (ℕ × V) → Option V
 entry letter [] = None
 entry letter (e ∷ es) = if letter == e.0 then Some e.1 else entry letter es
@@ -129,18 +129,18 @@ abbrev pub of_length : ℕ → List (List Operand) → Option (List Operand)
 of_length count [] = None
 of_length count (form ∷ forms) = if length form == count then Some form else of_length count forms
 
--- whether a word may stand for an operand by its name: a job has its own
+-- whether the operand allows this word: a job has to be named, any other operand allows each word
 abbrev pub is_named : Operand → List ℕ → Bool
 is_named (Job job) bytes = bytes_eq bytes (job_name job)
 is_named _ bytes = true
 
--- whether the jobs that a form names are those of the words
+-- whether the words name the jobs of a form
 abbrev pub are_named : List Operand → List Word → Bool
 are_named [] words = true
 are_named (operand ∷ form) [] = true
 are_named (operand ∷ form) (word ∷ words) = is_named operand word.bytes && are_named form words
 
--- the first form of as many operands as there are words, where the words name the jobs of the form
+-- the first form that has as many operands as there are words, and whose jobs the words name
 abbrev pub of_words : List Word → List (List Operand) → Option (List Operand)
 of_words words [] = None
 of_words words (form ∷ forms) = if length form == length words && are_named form words then Some form else of_words words forms
@@ -149,16 +149,16 @@ abbrev pub form_or : Option (List Operand) → Option (List Operand) → Option 
 form_or (Some form) other = Some form
 form_or None other = other
 
--- the form among others that these words are read by: where no form of so many operands has the jobs that they name,
--- the first of so many, whose job they then don't name
+-- the form by which these words are read: the first with so many operands whose jobs they name; if there is none, the
+-- first with so many operands, whose job they then don't name
 abbrev pub form_among : List Word → List (List Operand) → Option (List Operand)
 form_among words forms = form_or (of_words words forms) (of_length (length words) forms)
 
--- the operands of a verb, as these words are read
+-- the operands as which these words of a verb are read
 abbrev pub form_of : Verb → List Word → Option (List Operand)
 form_of verb words = form_among words (row_of verb).forms
 
--- a line of the code's table: its verb with its name; and the rest, with a command, which the code's line hasn't
+-- the verb and the name of a line of the code's table
 abbrev pub name_seen : Code.Row → Verb × List ℕ
 name_seen r = (r.verb, r.name.now)
 

@@ -1,4 +1,4 @@
--- What each verb is, in one table, so that a new verb has to be decided on.
+-- What each verb is, in one table, so that a new verb can't be forgotten.
 use Rattle.std.specs.Prelude.{Bool, IfSome, IsTrue, List, None, Option, Some, false, is_some, true, ℕ, ◌≤◌}
 use Rattle.command_words.specs.declared.commands.Command.{Command}
 use Rattle.command_words.specs.declared.commands.Command.TheVariants as commands
@@ -11,7 +11,7 @@ use Rattle.command_words.specs.declared.verbs.Traits.{Traits}
 use Rattle.command_words.specs.Spans.{AreSectors, IsBoundedJob, IsOldSize, IsWithin, JobIsWithin, KeyIsWithin, bytes_at}
 use Rattle.command_words.specs.Values.{is_hexadecimal}
 
--- one that needs such a drawer, and none of the rest
+-- a verb that needs such a drawer, and of which nothing else holds
 abbrev pub plain : Needs → Traits
 plain wanted =
     record {
@@ -27,27 +27,27 @@ plain wanted =
       only_reads = false;
     }
 
--- one that may be refused for want of memory
+-- a verb that may be refused for want of memory
 abbrev pub allocating : Needs → Traits
 allocating wanted = record (plain wanted) { lacks_memory = true }
 
--- one that leaves its drawer idle
+-- a verb that leaves its drawer idle
 abbrev pub letting_go : Needs → Traits
 letting_go wanted = record (plain wanted) { lets_go = true }
 
--- one that only reads its image, where it is the one command of a run
+-- a verb that only reads its image if it is the only command of a run
 abbrev pub only_reading : Needs → Traits
 only_reading wanted = record (plain wanted) { only_reads = true }
 
--- a request on an attached drawer, which stays attached whatever is answered
+-- a request on an attached drawer, which stays attached whatever the reply
 abbrev pub requesting : Traits
 requesting = record (plain AnAttached) { is_request = true }
 
--- one that is refused by a provider that is read-only
+-- a request that a read-only provider refuses
 abbrev pub writing : Traits
 writing = record requesting { writes_data = true }
 
--- one that changes the requests that are open on its drawer
+-- a request that changes the requests that are open on its drawer
 abbrev pub queueing : Traits
 queueing = record requesting { changes_requests = true }
 
@@ -61,19 +61,20 @@ job_writes jobs.Flush = false
 abbrev pub submitting : JobWords → Traits
 submitting job = record queueing { lacks_memory = true; writes_data = job_writes job }
 
--- what is said of a command by its verb: the provider that it names, if it names one; what the verb is; where its other
--- places lie, in a line of so many bytes; and that its numbers lie within their bounds, and its digits are hexadecimal
+-- what is known about a command from its verb: the provider that it names, if it names one; what the verb is; that its
+-- other spans lie in a line of so many bytes; and that its numbers lie within their bounds, and its digits are
+-- hexadecimal
 pub record Profile : Type 1 where
   pub prov : Option Span
   pub traits : Traits
   pub places : ℕ → Type 0
   pub bounds : List ℕ → Type 0
 
--- it has no place but that of its provider
+-- the command has no span but that of its provider
 abbrev pub NoPlaces : ℕ → Type 0
 NoPlaces len = Unit {0}
 
--- nothing bounds its numbers, or it has none
+-- nothing bounds the numbers of the command, or it has none
 abbrev pub NoBounds : List ℕ → Type 0
 NoBounds line = Unit {0}
 

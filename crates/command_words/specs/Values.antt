@@ -16,7 +16,7 @@ use Rattle.command_words.specs.declared.table.JobName.TheVariants as jobs
 use Rattle.command_words.specs.declared.table.Operand.{Operand}
 use Rattle.command_words.specs.declared.table.Operand.TheVariants.{Provider, File, Sector, FewSectors, ManySectors, Seed, Digits, Job, Tag}
 
--- the value of decimal digits: each counts the power of ten of its place
+-- the value of decimal digits, the first one most significant
 abbrev pub decimal : List ℕ → ℕ
 decimal [] = 0
 decimal (digit ∷ digits) = (digit - 48) * 10 ^ length digits + decimal digits
@@ -59,7 +59,7 @@ reason_unless good reason = if good then None else Some reason
 abbrev pub file_fault : List ℕ → Option Reason
 file_fault bytes = if bytes_eq bytes (codes "-") then Some DashFile else None
 
--- the fault of one more file, after so many of the same option
+-- the fault of one more file, after so many files of its option
 abbrev pub files_fault : ℕ → List ℕ → Option Reason
 files_fault before bytes =
     if bytes_eq bytes (codes "-") then Some DashFile else (if nat_le 16 before then Some TooManyFiles else None)

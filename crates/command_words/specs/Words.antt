@@ -16,7 +16,7 @@ abbrev pub is_between : Sep → ℕ → Bool
 is_between Blanks b = b == 32 || b == 9
 is_between Zeros b = b == 0
 
--- whether the bytes from one separator to the next are a word: between blanks a word has bytes
+-- whether the bytes from one separator to the next are a word: if blanks separate words, a word isn't empty
 abbrev pub is_word : Sep → List ℕ → Bool
 is_word Blanks [] = false
 is_word Blanks (b ∷ bs) = true

@@ -92,7 +92,7 @@ pub enum Command {
     Restore {
         file: Span,
         prov: Span,
-        /// `-f`: also where the sizes differ.
+        /// `-f`: even if the sizes differ.
         force: bool,
     },
     /// `resize`: moves the metadata to the end of an image that grew.
@@ -131,7 +131,7 @@ pub enum Command {
     },
     /// `step`: makes the next step of an open request.
     Step { prov: Span, tag: u8 },
-    /// `reap`: takes a request out that has no step left.
+    /// `reap`: takes out a request that has no step left.
     Reap { prov: Span, tag: u8 },
     /// `suspend`: lets the keys of a provider go.
     Suspend { prov: Span },
@@ -140,7 +140,7 @@ pub enum Command {
     /// `verify`: lists the units that fail.
     Verify {
         prov: Span,
-        /// The file that has the place where the sweep begins.
+        /// The file that says where the sweep begins.
         file: Span,
         count: u64,
         /// `-r`: the sweep begins at the first sector.

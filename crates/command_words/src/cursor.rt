@@ -6,9 +6,9 @@ use crate::spans::{Sep, Span};
 /// A word, or the part of one that is the value of an option, with its place in the line.
 #[derive(Clone, Copy)]
 pub struct Piece<'a> {
-    /// Its bytes.
+    /// The bytes of the word.
     pub bytes: &'a [u8],
-    /// Where they start in the line.
+    /// Where the bytes start in the line.
     pub start: u32,
     /// The number of the word from 0.
     pub number: u32,
@@ -35,7 +35,7 @@ impl Piece<'_> {
 #[derive(Clone, Copy)]
 pub struct Words<'a> {
     sep: Sep,
-    // The bytes that no word was taken from, and where they start.
+    // The bytes from which no word was taken yet, and where they start.
     rest: &'a [u8],
     start: u32,
     // The number of the next word.

@@ -36,7 +36,7 @@ impl ImageNames {
     }
 }
 
-/// The line of some words, which stand between zero bytes.
+/// The line of some words, joined by zero bytes.
 pub fn joined(alloc: Global, words: &[String]) -> Result<Vec<u8>, AllocError>
     ensures { IfOk result (λ line. line.items ≡ line_of (map string_bytes words.now)) }
 {
@@ -64,7 +64,7 @@ fn occurs(name: &String, names: &[String]) -> bool
     false
 }
 
-// Whether no name stands twice.
+// Whether no name occurs twice.
 fn all_differ(names: &[String]) -> bool
     ensures { result ≡ all_differ (map string_bytes names.now) }
 {
@@ -78,7 +78,7 @@ fn all_differ(names: &[String]) -> bool
     true
 }
 
-// Whether names may be those of a script's images.
+// Whether these can be the names of a script's images.
 fn are_images(names: &[String]) -> bool
     ensures { result ≡ are_images (map string_bytes names.now) }
 {
@@ -107,7 +107,7 @@ pub fn copied_names(alloc: Global, names: &[String]) -> Result<Vec<String>, NoMe
     Ok(images)
 }
 
-/// The name of the provider of a command that stands in the line, if it has one.
+/// The name of the provider of a command that was read from the line, if the command has one.
 pub fn provider_name(alloc: Global, line: &[u8], command: &Command) -> Result<Vec<String>, NoMemory>
     requires within { CommandIsWithin (length line.now) command.now }
     requires text { ProviderIsText line.now command.now }
@@ -123,7 +123,7 @@ pub fn provider_name(alloc: Global, line: &[u8], command: &Command) -> Result<Ve
     Ok(images)
 }
 
-/// The images that words name: those of a script; or else, where they are one command, its provider, if it has one.
+/// The images that words name: those of a script; or else, if the words are one command, its provider, if it has one.
 pub fn images_of(alloc: Global, words: &[String]) -> Result<ImageNames, NoMemory>
     ensures { IfOk result (λ images. images ≡ image_names (map string_bytes words.now)) }
 {
@@ -135,7 +135,7 @@ pub fn images_of(alloc: Global, words: &[String]) -> Result<ImageNames, NoMemory
     Ok(ImageNames { names })
 }
 
-// The name of the provider, where the line is a command that has one.
+// The name of the provider, if the line is a command that has one.
 fn name_in(alloc: Global, line: &[u8]) -> Result<Vec<String>, NoMemory>
     ensures { IfOk result (λ images. map string_bytes images.items ≡ name_at line.now (option_and_then provider_of (command_in line.now))) }
 {

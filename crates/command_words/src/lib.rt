@@ -1,4 +1,4 @@
-//! Lines to commands: the words of a line, the options of a verb, and the command that they come to, by
+//! From lines to commands: the words of a line, the options of a verb, and the command that they amount to, by
 //! the syntax of geli(8), which is POSIX option syntax (XBD, 12.2).
 #![tactic(auto)]
 

@@ -1,4 +1,4 @@
-//! A line to a command, or what is wrong with it.
+//! From a line to a command, or to what is wrong with the line.
 ghost use Rattle.std.specs.Prelude.{◌≡◌, ◌+◌, ◌≤◌, length, IfOk, IfSome};
 ghost use Rattle.std.specs.Str.{is_utf8};
 ghost use Rattle.command_words.specs.Cursor.{left};
@@ -31,14 +31,14 @@ fn starts_comment(sep: Sep, word: &[u8]) -> bool
     }
 }
 
-// Whether the words of a key name passphrases and go without one.
+// Whether the words of a key both name passphrase files and rule a passphrase out.
 fn excludes_itself(key: &KeyWords) -> bool
     ensures { result ≡ excludes_itself key.now }
 {
     key.without && key.pass.len() > 0
 }
 
-// Whether an option that must be there lacks.
+// Whether an option that must be there is missing.
 fn lacks(rule: Rule, settings: &Settings) -> bool
     ensures { result ≡ lacks_option rule settings.now }
 {
@@ -48,7 +48,7 @@ fn lacks(rule: Rule, settings: &Settings) -> bool
     }
 }
 
-// Whether two options that exclude each other under one verb alone are there.
+// Whether two options are there that exclude each other only under this verb's rule.
 fn excludes_own(rule: Rule, settings: &Settings) -> bool
     ensures { result ≡ excludes_own rule settings.now }
 {
@@ -59,7 +59,7 @@ fn excludes_own(rule: Rule, settings: &Settings) -> bool
     }
 }
 
-// Whether two options exclude each other.
+// Whether two options are there that exclude each other.
 fn excluded(verb: Verb, settings: &Settings) -> bool
     ensures { result ≡ excludes verb settings.now }
 {
@@ -136,7 +136,7 @@ fn delkey(settings: &Settings, prov: Span) -> Command
     }
 }
 
-// The request that the operands of `submit` say.
+// The request that the operands of `submit` describe.
 fn job(operands: &Operands) -> JobWords
     ensures { result ≡ job_at operands.now.job operands.now }
 {
@@ -287,7 +287,7 @@ fn read(line: &[u8], sep: Sep) -> Result<Option<Command>, Usage>
     Ok(Some(command))
 }
 
-/// Reads one line of at most 300,000 bytes: no command where the line has no word or, between blanks,
+/// Reads one line of at most 300,000 bytes: no command if the line has no word or, with blanks between words,
 /// is a comment; else a command, or what is wrong.
 pub fn read_line(line: &[u8], sep: Sep) -> Result<Option<Command>, Usage>
     requires { length line.now ≤ line_limit }
@@ -305,18 +305,18 @@ pub fn read_line(line: &[u8], sep: Sep) -> Result<Option<Command>, Usage>
     read(line, sep)
 }
 
-/// The command of a line whose words stand between zero bytes, if it says one. A line of more than 300,000 bytes says
-/// none.
+/// The command of a line whose words are separated by zero bytes, if the line has one. A line of more than 300,000
+/// bytes has none.
 pub fn command_in(line: &[u8]) -> Option<Command>
     ensures said { result ≡ command_in line.now }
 
     // The places of the command lie in the line.
     ensures places { IfSome result (CommandIsWithin (length line.now)) }
 
-    // The name of its provider is text.
+    // The name of the command's provider is text.
     ensures text { IfSome result (ProviderIsText line.now) }
 
-    // Its numbers lie within their bounds, and its digits are hexadecimal.
+    // The numbers of the command lie within their bounds, and its digits are hexadecimal.
     ensures bounds { IfSome result (IsBounded line.now) }
 {
     if line.len() > LINE_LIMIT {

@@ -56,7 +56,7 @@ fn hexadecimal(value: Piece) -> Result<Span, Reason>
     Ok(value.span())
 }
 
-// The job, where the word names it.
+// The job, if the word names it.
 fn named_job(job: JobName, value: Piece) -> Result<JobName, Reason>
     ensures { MatchResult result
         (λ named. (operand_fault (Operand.Job job) value.entry.bytes.now ≡ None) × (named ≡ job))
@@ -69,7 +69,7 @@ fn named_job(job: JobName, value: Piece) -> Result<JobName, Reason>
 }
 
 impl Operands {
-    // What no operand says.
+    // The values before any operand is taken.
     fn new() -> Operands
         ensures { result ≡ operands_of [] [] }
     {

@@ -72,7 +72,7 @@ fn take_letters(settings: &mut Settings, verb: Verb, group: Piece) -> Result<Opt
     Ok(None)
 }
 
-/// Takes the options of a verb from the words after it. What is left are the operands.
+/// Takes the options of a verb from the words after it. The words that are left are the operands.
 pub fn take_options<'a>(verb: Verb, words: Words<'a>) -> Result<(Settings, Words<'a>), Usage>
     ensures options { let total = words.entry.number + length (left words.entry) in
         let taken = taken_options verb total (left words.entry) (settings_given []) None in

@@ -148,7 +148,7 @@ impl Settings {
     ghost use Rattle.command_words.specs.Settings.{settings_given};
     ghost use Rattle.command_words.specs.Pass.{files_so_far, with_value, with_switch};
 
-    /// What no option says.
+    /// The settings if no option is given.
     pub fn new() -> Settings
         ensures { result ≡ settings_given [] }
     {

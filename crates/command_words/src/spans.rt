@@ -48,7 +48,7 @@ impl Sep {
         }
     }
 
-    /// How many bytes stand before the first separator.
+    /// How many bytes come before the first separator.
     pub(crate) fn part_len(self, bytes: &[u8]) -> usize
         ensures { result ≡ position_or_len (is_between self) bytes.now }
     {
@@ -73,7 +73,7 @@ pub struct Span {
 impl Span {
     ghost use Rattle.command_words.specs.Places.{IsWithin, bytes_at};
 
-    /// The bytes of the value, of the line in which the span lies.
+    /// The bytes of the value, in the line that the span belongs to.
     pub fn bytes_in(self, line: &[u8]) -> &[u8]
         requires { IsWithin (length line.now) self }
         ensures { result.now ≡ bytes_at line.now self }
@@ -109,7 +109,7 @@ impl Model for SpanList {
 }
 
 impl SpanList {
-    /// The list without a span.
+    /// The empty list.
     pub(crate) fn new() -> SpanList
         ensures { result ≡ [] }
     {
@@ -168,7 +168,7 @@ pub struct KeyWords {
 }
 
 impl KeyWords {
-    /// A key of which no word says anything.
+    /// A key about which no word says anything.
     pub(crate) fn new() -> KeyWords
         ensures files { result.files ≡ [] }
         ensures pass { result.pass ≡ [] }

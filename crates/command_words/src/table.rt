@@ -149,7 +149,7 @@ pub enum Operand {
     Tag,
 }
 
-/// What the options of a verb have to be together.
+/// What the options of a verb have to fulfil together.
 #[derive(Clone, Copy)]
 pub enum Rule {
     /// Nothing.
@@ -167,13 +167,13 @@ pub enum Rule {
 pub struct Row {
     /// The verb.
     pub verb: Verb,
-    /// Its name.
+    /// The name of the verb.
     pub name: &'static [u8],
     /// The letters without a value.
     pub alone: &'static [(u8, Switch)],
     /// The letters with a value.
     pub valued: &'static [(u8, Valued)],
-    /// What the options have to be together.
+    /// What the options have to fulfil together.
     pub rule: Rule,
     /// The operands in order, in each form that the verb has.
     pub forms: &'static [&'static [Operand]],
@@ -192,7 +192,7 @@ macro_rules! row {
     };
 }
 
-// The table of verbs, a line for each, in their order.
+// The table of verbs, a line for each, in the order of `Verb`.
 static ROWS: &[Row] = &[
     row! {
         Init, b"init", &[(b'P', WithoutFresh), (b'R', FixedSize), (b'v', Verbose)],
@@ -244,7 +244,7 @@ static ROWS: &[Row] = &[
     },
 ];
 
-// What a letter means among others.
+// What a letter means in a list of letters.
 fn entry<V: Copy>(letters: &[(u8, V)], letter: u8) -> Option<V>
     ensures { result ≡ entry letter letters.now }
 {
@@ -256,7 +256,7 @@ fn entry<V: Copy>(letters: &[(u8, V)], letter: u8) -> Option<V>
     None
 }
 
-// The verb of a name among others.
+// The verb of this name in a list of lines.
 fn named_among(name: &[u8], rows: &[Row]) -> Option<Verb>
     ensures { result ≡ named_among name.now (map name_seen rows.now) }
 {
@@ -268,7 +268,7 @@ fn named_among(name: &[u8], rows: &[Row]) -> Option<Verb>
     None
 }
 
-// Whether a word may stand for an operand by its name: a job has its own.
+// Whether the operand allows this word: a job has to be named, any other operand allows each word.
 fn is_named(operand: Operand, bytes: &[u8]) -> bool
     ensures { result ≡ is_named operand bytes.now }
 {
@@ -278,7 +278,7 @@ fn is_named(operand: Operand, bytes: &[u8]) -> bool
     }
 }
 
-// Whether the jobs that a form names are those of the words.
+// Whether the words name the jobs of a form.
 fn are_named(form: &[Operand], words: Words) -> bool
     ensures { result ≡ are_named form.now (left words.entry) }
 {
@@ -297,7 +297,7 @@ fn are_named(form: &[Operand], words: Words) -> bool
     true
 }
 
-// The first form of as many operands as there are words, where the words name the jobs of the form.
+// The first form that has as many operands as there are words, and whose jobs the words name.
 fn of_words(forms: &'static [&'static [Operand]], words: Words) -> Option<&'static [Operand]>
     ensures { MatchOption result
         (of_words (left words.entry) (map (λ form. form.now) forms.now) ≡ None)
@@ -312,7 +312,7 @@ fn of_words(forms: &'static [&'static [Operand]], words: Words) -> Option<&'stat
     None
 }
 
-// The first form of so many operands.
+// The first form with so many operands.
 fn of_length(forms: &'static [&'static [Operand]], count: u32) -> Option<&'static [Operand]>
     ensures { MatchOption result
         (of_length count (map (λ form. form.now) forms.now) ≡ None)
@@ -355,7 +355,7 @@ impl Verb {
         }
     }
 
-    /// The operands of the verb, as these words are read.
+    /// The operands as which these words of the verb are read.
     pub fn operands(self, words: Words) -> Option<&'static [Operand]>
         ensures { MatchOption result (form_of self (left words.entry) ≡ None) (λ form. form_of self (left words.entry) ≡ Some form.now) }
     {

@@ -14,7 +14,7 @@ fn with_digit(value: u64, digit: u64) -> Option<u64>
     value.checked_mul(10)?.checked_add(digit)
 }
 
-// The value of decimal digits, where it is below 2^64.
+// The value of decimal digits, if it is below 2^64.
 #[tactic(auto, using(crate::proofs::Numbers::decimal_last))]
 fn digits_value(digits: &[u8]) -> Option<u64>
     ensures { MatchOption result (2 ^ 64 ≤ decimal digits.now) (λ value. value ≡ decimal digits.now) }
@@ -43,8 +43,7 @@ fn is_digits(bytes: &[u8]) -> bool
     !bytes.is_empty() && bytes.len() <= 20 && all_digits(bytes)
 }
 
-/// The number that the bytes spell, where they are one to twenty decimal digits and it lies within
-/// the bounds.
+/// The number that the bytes spell, if they are one to twenty decimal digits and it lies within the bounds.
 pub fn number(bytes: &[u8], low: u64, high: u64) -> Option<u64>
     ensures number { result ≡ number_within low high bytes.now }
     ensures within { IfSome result (λ value. value ≤ high) }
@@ -69,7 +68,7 @@ pub fn old_size(bytes: &[u8]) -> Option<u64>
 fn all_hexadecimal(bytes: &[u8]) -> bool
     ensures { result ≡ list_all is_ascii_hexdigit bytes.now }
 {
-    // Each byte is looked at, whatever those before it are, so that many are looked at together.
+    // Each byte is tested, whatever the bytes before it are, so that many can be tested at once.
     let mut all = true;
     for i in 0..bytes.len() {
         all &= bytes[i].is_ascii_hexdigit();

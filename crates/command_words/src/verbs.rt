@@ -1,4 +1,4 @@
-//! What each verb is: which drawer it needs, and what it may do with that; and which provider a command names.
+//! What each verb is: which drawer it needs, and what it may do with this drawer; and which provider a command names.
 ghost use Rattle.std.specs.Prelude.{◌≡◌};
 ghost use Rattle.command_words.specs.Places.{provider_of};
 ghost use Rattle.command_words.specs.Traits.{allocating, job_writes, letting_go, only_reading, plain, queueing, requesting};
@@ -7,7 +7,7 @@ ghost use Rattle.command_words.specs.Traits.{submitting, traits_of, writing};
 use crate::commands::{Command, JobWords};
 use crate::spans::Span;
 
-/// Which drawer a verb needs, by what that does with its disk.
+/// Which drawer a verb needs, by what the drawer does with its disk.
 #[derive(Clone, Copy, Debug, PartialEq, Eq)]
 pub enum Needs {
     /// An idle one.
@@ -45,11 +45,11 @@ pub struct Traits {
     pub is_request: bool,
     /// Whether it takes its drawer out of the list.
     pub takes_out: bool,
-    /// Whether it only reads its image, where it is the one command of a run.
+    /// Whether it only reads its image if it is the only command of a run.
     pub only_reads: bool,
 }
 
-// One that needs such a drawer, and none of the rest.
+// A verb that needs such a drawer, and of which nothing else holds.
 fn plain(drawer: Needs) -> Traits
     ensures { result ≡ plain drawer }
 {
@@ -67,7 +67,7 @@ fn plain(drawer: Needs) -> Traits
     }
 }
 
-// One that may be refused for want of memory.
+// A verb that may be refused for want of memory.
 fn allocating(drawer: Needs) -> Traits
     ensures { result ≡ allocating drawer }
 {
@@ -77,7 +77,7 @@ fn allocating(drawer: Needs) -> Traits
     }
 }
 
-// One that leaves its drawer idle.
+// A verb that leaves its drawer idle.
 fn letting_go(drawer: Needs) -> Traits
     ensures { result ≡ letting_go drawer }
 {
@@ -87,7 +87,7 @@ fn letting_go(drawer: Needs) -> Traits
     }
 }
 
-// One that only reads its image.
+// A verb that only reads its image.
 fn only_reading(drawer: Needs) -> Traits
     ensures { result ≡ only_reading drawer }
 {
@@ -107,7 +107,7 @@ fn requesting() -> Traits
     }
 }
 
-// A request that a provider refuses that is read-only.
+// A request that a read-only provider refuses.
 fn writing() -> Traits
     ensures { result ≡ writing }
 {
@@ -117,7 +117,7 @@ fn writing() -> Traits
     }
 }
 
-// A request that changes those that are open.
+// A request that changes the open requests.
 fn queueing() -> Traits
     ensures { result ≡ queueing }
 {
@@ -127,7 +127,7 @@ fn queueing() -> Traits
     }
 }
 
-// `submit`.
+// The verb `submit`.
 fn submitting(job: &JobWords) -> Traits
     ensures { result ≡ submitting job.now }
 {
@@ -138,7 +138,7 @@ fn submitting(job: &JobWords) -> Traits
     }
 }
 
-// Whether a provider that is read-only refuses the request.
+// Whether a read-only provider refuses the request.
 fn job_writes(job: &JobWords) -> bool
     ensures { result ≡ job_writes job.now }
 {

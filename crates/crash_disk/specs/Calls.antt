@@ -24,7 +24,7 @@ called calls = record calls { made = one_more calls.made }
 abbrev pub next_fails : CallsState → Bool
 next_fails calls = list_any (λ number. number == one_more calls.made) calls.fails
 
--- as many as are wanted, but no more than the cut, where a cut of 0 counts as 1
+-- as many as are wanted, but no more than the cut, if there is one; a cut of 0 counts as 1
 abbrev pub cut_to : Option ℕ → ℕ → ℕ
 cut_to None wanted = wanted
 cut_to (Some cut) wanted = min wanted (max cut 1)

@@ -71,7 +71,7 @@ impl Calls {
     }
 }
 
-// No more than the cut, where a cut of 0 counts as 1.
+// As many as are wanted, but no more than the cut, if there is one; a cut of 0 counts as 1.
 fn cut_to(cut: Option<usize>, wanted: usize) -> usize
     ensures { result ≡ cut_to cut wanted }
 {

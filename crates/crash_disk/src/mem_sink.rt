@@ -41,8 +41,8 @@ impl Model for MemSink {
 }
 
 impl MemSink {
-    /// Has room for so many bytes. Call k, counted from 1, takes at most `cuts[k - 1]` bytes, where a cut of 0 counts
-    /// as 1, and fails if `fails` has k. With no room left it fails at a piece that isn't empty.
+    /// Has room for so many bytes. Call k, counted from 1, takes at most `cuts[k - 1]` bytes (a cut of 0 counts as 1),
+    /// and fails if `fails` has k. With no room left it fails at a piece that isn't empty.
     pub fn new(alloc: Global, cuts: &[usize], fails: &[u64], room: u64) -> Result<MemSink, NoMemory>
         ensures { IfOk result (λ sink. sink ≡ record { bytes = []; room = room; cuts = cuts.now; calls = failing fails.now; faults = 0; refused = 0; idle = 0 }) }
     {

@@ -40,8 +40,8 @@ impl Model for MemSource {
 }
 
 impl MemSource {
-    /// Gives these bytes. Call k, counted from 1, gives at most `cuts[k - 1]` of them, where a cut of 0 counts as 1,
-    /// and fails if `fails` has k.
+    /// Gives these bytes. Call k, counted from 1, gives at most `cuts[k - 1]` of them (a cut of 0 counts as 1), and
+    /// fails if `fails` has k.
     pub fn new(
         alloc: Global,
         bytes: &[u8],

@@ -67,7 +67,7 @@ next b p n field rest long begins = sym (drop-drop n p b) ∙ ap (drop n) begins
 here : (b : List ℕ) (p n : ℕ) (field rest : List ℕ) → length field ≡ n → drop p b ≡ field ++ rest → field_at b p n ≡ field
 here b p n field rest long begins = ap (take n) begins ∙ ap (λ (k : ℕ). take k (field ++ rest)) (sym long) ∙ take-append_seam field rest
 
--- the number at a place where its bytes stand
+-- the number that is read at the place where its bytes stand
 number_here : (b : List ℕ) (p n x : ℕ) (rest : List ℕ) → x < 256 ^ n → drop p b ≡ number_bytes n x ++ rest → number_at b p n ≡ x
 unfolding number_at number_bytes
 number_here b p n x rest small begins =
@@ -85,13 +85,13 @@ cast_unsigned-lt : (z : ℤ) → FitsSigned w32 z → cast_unsigned w32 z < 2 ^ 
 cast_unsigned-lt (pos n) fits = let small = fits.sfits in omega arith
 cast_unsigned-lt (negsuc n) fits = let small = fits.sfits in omega arith
 
--- the signed number at a place where its bytes stand
+-- the signed number that is read at the place where its bytes stand
 signed_here : (b : List ℕ) (p : ℕ) (z : ℤ) (rest : List ℕ) → FitsSigned w32 z → drop p b ≡ signed_bytes z ++ rest → signed_at b p ≡ z
 unfolding signed_at signed_bytes
 signed_here b p z rest fits begins =
     ap (cast_signed w32) (number_here b p 4 (cast_unsigned w32 z) rest (cast_unsigned-lt z fits) begins) ∙ to_z-of_z w32 z fits
 
--- the bytes of a sector from a field on, where `rest` follows the fields
+-- the bytes of a sector from a field on, if `rest` follows the fields
 abbrev from_salt : Metadata → List ℕ → List ℕ
 from_salt m rest = m.salt ++ (m.mkeys ++ rest)
 

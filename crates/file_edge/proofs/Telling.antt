@@ -22,7 +22,7 @@ of_size-logged : (size : ℕ) (events : List Event) (told : Option Content) → 
 of_size-logged size events None = refl
 of_size-logged size events (Some c) = if_logged (length c.base == size) events c
 
--- the events are the same where it counts
+-- the events need to be the same only if the condition holds
 if_all : (is : Bool) (events some : List Event) (c : Content) → (is ≡ true → some ≡ events) → cond is (Some (with_events some c)) None ≡ logged events (cond is (Some c) None)
 if_all true events some c same = ap (λ (es : List Event). Some (with_events es c)) (same refl)
 if_all false events some c same = refl

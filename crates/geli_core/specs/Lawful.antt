@@ -16,7 +16,7 @@ use Rattle.geli_core.specs.declared.status.Status.{Status}
 -- What holds of each drawer that is there after these lines. `survivors`: it was there at entry and did steps line by
 -- line. If its disk reports its content, and power fails at any moment of them, each image that is left reads unit by
 -- unit from what the lines' writes placed and what was there. The moment may be before or within any write of a device
--- sector. A torn or altered image may also read as a named fault, as strange bytes where nothing authenticates them, or
+-- sector. A torn or altered image may also read as a named fault, as strange bytes if nothing authenticates them, or
 -- as forged ones (docs/THEOREM.md). `suspended`: the disk of a suspended drawer has logged nothing since a line
 -- suspended it, or since entry; so no line wrote it, whatever lines named it.
 pub record DrawersSince (sep : Sep) (entry : World) (served : List ServedLine) (now : World) : Type 0 where

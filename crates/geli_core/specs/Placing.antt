@@ -57,7 +57,7 @@ abbrev pub tasks_stepped : Answer → Option Task → Keying → (ℕ → List W
 tasks_stepped (answers.Left left) (Some t) k cells tasks = exchange_task (task_after k cells t) tasks
 tasks_stepped answer found k cells tasks = tasks
 
--- a request that was reaped isn't open any more, also where a unit of it had another tag than its ciphertext
+-- a request that was reaped isn't open any more, even if a unit of it had another tag than its ciphertext
 abbrev pub tasks_reaped : Answer → ℕ → List Task → List Task
 tasks_reaped answers.Done tag tasks = without_task tag tasks
 tasks_reaped (answers.Payload bytes) tag tasks = without_task tag tasks

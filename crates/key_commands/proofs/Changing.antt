@@ -63,7 +63,7 @@ three_has zero lt = refl
 three_has (suc zero) lt = refl
 three_has (suc (suc s)) lt = absurd (omega arith)
 
--- where one slot alone holds a key, the other bit is clear
+-- if one slot alone holds a key, the bit of the other slot is clear
 other_clear : (keys slot s : ℕ) → s < 2 → s ≢ slot → bit_and keys 3 ≡ 2 ^ slot → bit_and keys (2 ^ s) ≡ 0
 other_clear keys slot s lt ne e =
     ap (bit_and keys) (sym (three_has s lt)) ∙ sym (and_assoc (2 ^ s) keys 3) ∙ ap (λ (k : ℕ). bit_and k (2 ^ s)) e ∙ pow_apart slot s (λ h. ne (sym h))
@@ -117,7 +117,7 @@ same_key-change asked s lt ne served set parts key e =
     let P : Option ℤ → Type 0 = λ given. user_key parts asked.meta.salt (new_iterations given asked.parts.passphrase asked.meta.iterations) ≡ Ok key in
     subst P (sym none) (same_key-new asked.parts.passphrase asked.meta.iterations parts asked.meta.salt key e)
 
--- the count stays, or none was kept
+-- the iterations stay, or none were set up
 stays : (passphrase : PassPart) (kept : ℤ) → (new_iterations None passphrase kept ≡ kept) ⊎ (is_negative kept ≡ true)
 stays Without kept = inl refl
 stays Missing kept = inl refl
@@ -133,7 +133,7 @@ changed_iterations-stays asked s lt ne served set =
 
 -- ---- a slot that stays
 
--- a slot with the same bytes and bit is kept, where components make the same key
+-- a slot with the same bytes and bit is kept if components make the same key
 pub KeepsSlot-same : (old new : Metadata) (s : ℕ) → SameSlot old new s → new.keylen ≡ old.keylen
     → (IsTrue (is_set old s) → (parts : Components) (key : UserKey) → user_key parts old.salt old.iterations ≡ Ok key → user_key parts new.salt new.iterations ≡ Ok key)
     → KeepsSlot old new s
@@ -145,7 +145,7 @@ KeepsSlot-same old new s same keylen derives = record {
 
 -- ---- what a new key makes
 
--- where a slot is set, some slot is
+-- if slot s is set, not all slots are clear
 some_set : (m : Metadata) (s : ℕ) → s < 2 → is_set m s ≡ true → are_clear m.keys 3 ≡ false
 some_set m s lt set =
     is_false (are_clear m.keys 3) (λ clear.
@@ -180,7 +180,7 @@ neither false b either = refl
 neither true true either = refl
 neither true false either = elim either [ inl e ↦ absurd (cc) | inr e ↦ absurd (cc) ]
 
--- where no count is given, or the one key is replaced, and the components make a key, nothing is refused
+-- if no iterations are given, or the one key is replaced, and the components make a key, nothing is refused
 change_refusal-none : (asked : KeyChange) (key : UserKey) → (is_some asked.iterations ≡ false) ⊎ (is_only_key asked.meta asked.slot ≡ true) → new_user_key asked ≡ Ok key
     → change_refusal asked ≡ None
 change_refusal-none asked key either made =
@@ -188,7 +188,7 @@ change_refusal-none asked key either made =
     (neither (is_some asked.iterations) (is_only_key asked.meta asked.slot) either)
     ∙ ap key_refusal made
 
--- the new metadata, by their iterations
+-- the new metadata, from the iterations that the code computes
 pub MakesKey-with : (asked : KeyChange) (key : UserKey) (m : Metadata) (count : ℤ) → IsAskedFor asked → count ≡ changed_iterations asked
     → (is_some asked.iterations ≡ false) ⊎ (is_only_key asked.meta asked.slot ≡ true)
     → user_key asked.parts asked.meta.salt count ≡ Ok key
@@ -210,9 +210,9 @@ MakesKey-with asked key m count given rule either made is whole =
       whole = whole;
     }
 
--- ---- of what use they are
+-- ---- the new metadata can be used
 
--- the slot that got the bytes of a master key opens to it
+-- the slot that got the bytes of a wrapped master key opens to this master key
 Opens-with_slot : (old : Metadata) (count : ℤ) (slot : ℕ) (bytes u master : List ℕ) → length old.mkeys ≡ 384 → length bytes ≡ 192 → slot < 2 → IsSlotOf bytes u old.keylen master
     → Opens (with_slot (record old { iterations = count }) slot bytes) u slot master
 Opens-with_slot old count zero bytes u master long long' lt held =

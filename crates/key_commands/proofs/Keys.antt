@@ -15,11 +15,11 @@ use Rattle.user_key.specs.declared.components.KeyFault.{KeyFault}
 use Rattle.user_key.specs.declared.components.KeyFault.TheVariants.{PassphraseNotSet, PassphraseNeeded, NoKeyComponents}
 use Rattle.user_key.specs.declared.components.UserKey.{UserKey}
 
--- of three conditions none holds
+-- none of three conditions holds
 none_of_three : (a b c : Bool) (x y z w : Option Refusal) → a ≡ true → b ≡ true → c ≡ false → cond (not a) x (cond (not b) y (cond c z w)) ≡ w
 none_of_three a b c x y z w p q r = rw (p, q, r) refl
 
--- where the options and the size are not refused, the components decide
+-- if the options and the size aren't refused, the components decide
 pub early_refusal-key : (options : InitOptions) (parts : Components) (sectors : ℕ) → allows_length options.cipher options.keylen ≡ true → is_sector_size options.sectorsize ≡ true
     → (media_sectors options.auth options.sectorsize (512 * sectors) == 0) ≡ false
     → early_refusal options parts sectors ≡ key_refusal (user_key parts [] options.iterations)
@@ -28,12 +28,12 @@ early_refusal-key options parts sectors a b c =
     (Some (refusals.BadKeyLength options.keylen)) (Some (refusals.BadSectorSize options.sectorsize)) (Some (refusals.TooSmall (512 * sectors)))
     (key_refusal (user_key parts [] options.iterations)) a b c
 
--- a fault of the components is what they are refused for
+-- a fault of the components is the refusal
 pub key_refusal-fault : (key : Result UserKey KeyFault) (fault : KeyFault) → result_err key ≡ Some fault → key_refusal key ≡ Some (key_refusal_of fault)
 key_refusal-fault (Ok key) fault is = grind arith
 key_refusal-fault (Err found) fault is = grind arith
 
--- a failing device or failing entropy is no cause
+-- whether the refusal says that the device or the entropy failed, which no check of the arguments finds
 abbrev is_outside : Refusal → Bool
 is_outside refusals.DeviceFault = true
 is_outside refusals.EntropyFault = true

@@ -1,4 +1,4 @@
--- What `init` did, from what its parts did, and of what use the metadata are.
+-- What `init` did, from what its parts did, and that the metadata can be used.
 use Rattle.std.proofs.Common.{◌≡◌, ℕ, ◌<◌, ◌^◌, List, [], ◌∷◌, length, drop, refl, ap, sym, ◌∙◌, None, Ok, Err, arith, length-drop}
 use Rattle.std.proofs.lemmas.List.{length-take-le}
 use Rattle.aes_core.specs.Schedule.{AreBytes}
@@ -32,7 +32,7 @@ use Rattle.user_key.specs.Derivation.{user_key}
 use Rattle.user_key.specs.declared.components.Components.{Components}
 use Rattle.user_key.specs.declared.components.UserKey.{UserKey}
 
--- the metadata by the parts of the random bytes are those by the random bytes
+-- the metadata made from the parts of the random bytes are those made from the random bytes
 pub makes : (options : InitOptions) (parts : Components) (sectors : ℕ) (random : RandomParts) (key : UserKey) (m : Metadata) (old new : EntropyState)
     → early_refusal options parts sectors ≡ None → Draws random old new → user_key parts random.salt options.iterations ≡ Ok key
     → m ≡ metadata_of options sectors random.salt (wrapped random.master.bytes key.bytes options.keylen) random.filler → IsWhole m
@@ -75,7 +75,7 @@ is_usable options parts sectors m random key served size bytes derived is whole 
       opens = rw is (OpensFirst-new_metadata options sectors random key.bytes bits size bytes);
     }
 
--- the metadata that were made are of use
+-- the metadata that were made can be used
 pub IsUsable-makes : (options : InitOptions) (parts : Components) (sectors : ℕ) (old : EntropyState) (m : Metadata) (new : EntropyState) (makes : MakesMetadata options parts sectors old m new) → sectors < 2 ^ 44
     → IsUsable options parts sectors m makes.key (master_key_in makes.random)
 IsUsable-makes options parts sectors old m new makes small =

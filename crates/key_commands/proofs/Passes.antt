@@ -27,7 +27,7 @@ use Rattle.key_commands.proofs.Changing.{KeepsSlot-same}
 
 -- ---- metadata without keys
 
--- no bit is left
+-- a bit that the mask lacks is clear
 none_left : (keys mask bit : ℕ) → bit_and mask bit ≡ 0 → not (bit_and (bit_and keys mask) bit == 0) ≡ false
 none_left keys mask bit e = ap (λ (k : ℕ). not (k == 0)) (and_assoc bit keys mask ∙ ap (bit_and keys) e ∙ and_comm keys 0)
 
@@ -108,7 +108,7 @@ slot_bytes-zeros m slots.All (suc zero) there whole named = refl
 slot_bytes-zeros m slots.All (suc (suc s)) there whole named = absurd (omega arith)
 slot_bytes-zeros m (slots.One slot) s there whole named = rw named (bytes_same m.mkeys (replicate 192 0) slot whole.mkeys (length-replicate {A = ℕ} 192 0) there)
 
--- slots that may go are there
+-- slots that may be cleared exist
 none_first : (test : Bool) (refusal : Refusal) (rest : Option Refusal) → cond test (Some refusal) rest ≡ None → test ≡ false
 none_first true refusal rest e = absurd (cc)
 none_first false refusal rest e = refl

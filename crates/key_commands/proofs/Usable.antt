@@ -28,12 +28,12 @@ use Rattle.key_commands.specs.Options.{early_refusal, key_refusal}
 use Rattle.key_commands.specs.Usable.{IsAccepted, OpensFirst, settings_for}
 use Rattle.key_commands.specs.declared.options.InitOptions.{InitOptions}
 
--- a key length and a sector size that are allowed, and a size that isn't too large: of three refusals none holds
+-- if the key length and the sector size are allowed, and the size isn't too large, none of three refusals holds
 three_hold : (a b c : Bool) (x : Settings) (p q r : MetaFault) → a ≡ true → b ≡ true → c ≡ false
     → unless (cond (not a) (Some p) (cond (not b) (Some q) (cond c (Some r) None))) x ≡ Ok x
 three_hold a b c x p q r e f g = rw (e, f, g) refl
 
--- the settings by each cipher, authentication and wish to grow
+-- the settings, for each cipher, each authentication, and whether the provider is to grow
 settings : (cipher : Cipher) (auth : Auth) (autoresize : Bool) (keylen sectorsize sectors : ℕ) (iterations : ℤ) (salt slot0 slot1 : List ℕ)
     → allows_length cipher keylen ≡ true → is_sector_size sectorsize ≡ true → nat_le (2 ^ 53) (512 * sectors) ≡ false
     → supported (metadata_of (record { cipher = cipher; auth = auth; keylen = keylen; sectorsize = sectorsize; iterations = iterations; autoresize = autoresize }) sectors salt slot0 slot1)
@@ -78,7 +78,7 @@ is_below n bound lt = grind (arith, common_steps)
 same_number : (n : ℕ) (x p : Result (Unit {0}) MetaFault) → cond (n == n) x p ≡ x
 same_number n x p = let same : (n == n) ≡ true = (Decides-eqb n n).1 refl in rw same refl
 
--- metadata by options that are not refused are accepted, whatever stands in the salt and the slots
+-- metadata with options that aren't refused are accepted, whatever stands in the salt and the slots
 pub IsAccepted-metadata_of : (options : InitOptions) (sectors : ℕ) (salt slot0 slot1 : List ℕ)
     → allows_length options.cipher options.keylen ≡ true → is_sector_size options.sectorsize ≡ true → sectors < 2 ^ 44
     → IsAccepted options sectors (metadata_of options sectors salt slot0 slot1)
@@ -91,7 +91,7 @@ IsAccepted-metadata_of options sectors salt slot0 slot1 allowed sized small =
       slot_0 = refl;
     }
 
--- where slot 0 alone is set, and its bytes are a slot of the master key, it opens to it
+-- if slot 0 alone is set, and its bytes wrap the master key, it opens to the master key
 pub Opens-slot_0 : (m : Metadata) (slot filler u master : List ℕ) → m.keys ≡ 1 → m.mkeys ≡ slot ++ filler
     → length slot ≡ 192 → IsSlotOf slot u m.keylen master → Opens m u 0 master
 Opens-slot_0 m slot filler u master keys slots long held =
@@ -101,7 +101,7 @@ Opens-slot_0 m slot filler u master keys slots long held =
       slot = record { text = ap (λ (xs : List ℕ). deciphered_slot xs u m.keylen) bytes ∙ held.text };
     }
 
--- where slot 0 opens to a master key, it is what the slot, and the first that opens, give
+-- if slot 0 opens to a master key, unwrapping slot 0 gives this key, and so does unwrapping the first slot that opens
 pub OpensFirst-Opens : (m : Metadata) (u master : List ℕ) → length master ≡ 128 → Opens m u 0 master → OpensFirst m u master
 OpensFirst-Opens m u master long held =
     let text : List ℕ = deciphered_slot (slot_bytes m 0) u m.keylen in
@@ -123,7 +123,7 @@ some_left : (n : ℕ) → (n == 0) ≡ false → 1 ≤ n
 some_left zero e = absurd (cc)
 some_left (suc n) e = omega arith
 
--- what holds of options that are not refused
+-- what holds for options that aren't refused
 pub record IsServed (options : InitOptions) (sectors : ℕ) : Type 0 where
   pub allowed : allows_length options.cipher options.keylen ≡ true
   pub sized : is_sector_size options.sectorsize ≡ true

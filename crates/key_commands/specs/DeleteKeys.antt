@@ -1,4 +1,4 @@
--- What `delkey` answers, and what it does to the disk and the entropy (geli(8), delkey).
+-- What `delkey` returns, and what it does to the disk and the entropy (geli(8), delkey).
 use Rattle.std.specs.Prelude.{◌≡◌, ℕ, ◌<◌, Bool, IsTrue, false, List, length, replicate, None, Some, Result, Ok, Err}
 use Rattle.block_traits.specs.Disk.{DiskState, FailsIn, Logs, last_sector}
 use Rattle.block_traits.specs.Moments.{AtEachMoment, HoldsOnceFlushed, KeepsOldOr}
@@ -20,15 +20,15 @@ pub record Deletion : Type 0 where
   pub which : Which
   pub force : Bool
 
--- nothing is refused of metadata whose fields fit their types, and the random bytes are taken in one call
+-- the fields of the metadata fit their types, nothing is refused, and the random bytes were taken in one call
 pub record DrawsFiller (asked : Deletion) (old : EntropyState) (random : List ℕ) (new : EntropyState) : Type 0 where
   pub whole : IsWhole asked.meta
   pub served : deletion_refusal asked.meta asked.which asked.force ≡ None
   pub size : length random ≡ filler_size asked.which
   pub taken : Takes random old new
 
--- at each moment each value that the last sector may hold is one from before or has the named slots clear, and from the
--- first flush on it is one of the latter
+-- at each moment each value that the last sector may hold is one from before or has the named slots clear; from the
+-- first flush on, each has them clear
 pub record Overwrites (asked : Deletion) (disk disk' : DiskState) : Type 0 where
   pub kept : KeepsOldOr (HasNoKey asked.meta asked.which) (last_sector disk) disk.content disk'.content
   pub flushed : AtEachMoment (HoldsOnceFlushed (HasNoKey asked.meta asked.which) (last_sector disk)) disk.content disk'.content
@@ -37,8 +37,8 @@ pub record Overwrites (asked : Deletion) (disk disk' : DiskState) : Type 0 where
 pub record IsWithout (asked : Deletion) (m : Metadata) : Type 0 where
   pub metadata : m ≡ without_keys asked.meta asked.which (zeros (named_size asked.which))
 
--- of what use the metadata are that are left: they are read again where their version is one that is read, the named
--- slots are clear and zeros, and the other slot is kept
+-- the metadata that are left can be used: they are read back if their version is one that is read, the named slots are
+-- clear and hold zeros, and a slot that isn't named is kept
 pub record HasOtherKeys (asked : Deletion) (m : Metadata) : Type 0 where
   pub read : IsTrue (is_served m.version m.flags) → metadata_in (encoded m) ≡ Ok m
   pub clear : (s : ℕ) → Names asked.which s → is_set m s ≡ false
@@ -66,13 +66,13 @@ pub record HasNoFiller (asked : Deletion) (disk : DiskState) (entropy : EntropyS
   pub none : TakesNone entropy entropy'
   pub unchanged : disk' ≡ disk
 
--- it is refused, and nothing was done
+-- the deletion is refused, and nothing was done
 pub record RefusesDeletion (asked : Deletion) (disk : DiskState) (entropy : EntropyState) (refusal : Refusal) (disk' : DiskState) (entropy' : EntropyState) : Type 0 where
   pub cause : deletion_refusal asked.meta asked.which asked.force ≡ Some refusal
   pub disk_unchanged : disk' ≡ disk
   pub entropy_unchanged : entropy' ≡ entropy
 
--- what `delkey` does and answers, by the cases of its answer
+-- what `delkey` does, by the cases of what it returns
 abbrev pub DeletesKeys : Deletion → DiskState → EntropyState → Result Metadata Refusal → DiskState → EntropyState → Type 0
 DeletesKeys asked disk entropy (Ok m) disk' entropy' = Deletes asked disk entropy m disk' entropy'
 DeletesKeys asked disk entropy (Err DeviceFault) disk' entropy' = DeletesPart asked disk entropy disk' entropy'

@@ -16,7 +16,7 @@ use Rattle.user_key.specs.declared.components.UserKey.{UserKey}
 use Rattle.key_commands.specs.Options.{first_or_key}
 use Rattle.key_commands.specs.Types.{IsMasterKey}
 
--- what is asked for: the metadata as they were read, the master key, the slot that is to have it, the iterations where
+-- what is asked for: the metadata as they were read, the master key, the slot that is to have it, the iterations if
 -- they are given, and the components of the new user key
 pub record KeyChange : Type 0 where
   pub meta : Metadata
@@ -25,8 +25,8 @@ pub record KeyChange : Type 0 where
   pub iterations : Option ℤ
   pub parts : Components
 
--- the iterations, by those that are given, the passphrase, and those that were kept: a passphrase where none was set up
--- brings 100,000
+-- the new iterations, from those that are given, the passphrase, and the old iterations: 100,000 if none are given, a
+-- passphrase is, and none was set up before
 abbrev pub new_iterations : Option ℤ → PassPart → ℤ → ℤ
 new_iterations (Some count) passphrase kept = count
 new_iterations None Without kept = kept
@@ -44,8 +44,8 @@ new_user_key asked = user_key asked.parts asked.meta.salt (changed_iterations as
 abbrev pub is_only_key : Metadata → ℕ → Bool
 is_only_key m slot = bit_and m.keys 3 == 2 ^ slot
 
--- the first refusal that holds: iterations may be given only where the one key that is set is replaced, since the other
--- key was made by those that are kept
+-- the first refusal that holds: iterations may be given only if the one key that is set is replaced, since another key
+-- was made with the old iterations
 abbrev pub change_refusal : KeyChange → Option Refusal
 change_refusal asked = first_or_key (
     (is_some asked.iterations && not (is_only_key asked.meta asked.slot), IterationsNeedOneKey)
@@ -57,30 +57,30 @@ with_key asked u =
     let m = asked.meta in
     with_slot (record m { iterations = changed_iterations asked }) asked.slot (wrapped asked.master u m.keylen)
 
--- what new metadata keep of slot s: its bytes and its bit, what each user key opens it to, and, where it holds a key,
--- the user key that components make
+-- what new metadata keep of slot s: its bytes and its bit, what each user key opens it to, and, if it holds a key, the
+-- user key that components make
 pub record KeepsSlot (old new : Metadata) (s : ℕ) : Type 0 where
   pub same : SameSlot old new s
   pub opens : OpensAsBefore old new s
   pub derives : IsTrue (is_set old s) → (parts : Components) (key : UserKey) → user_key parts old.salt old.iterations ≡ Ok key
       → user_key parts new.salt new.iterations ≡ Ok key
 
--- the check and the gate of sizes answer of the new metadata what they answer of the old ones, and slot s holds a key
+-- the check and the gate of sizes return for the new metadata what they return for the old ones, and slot s holds a key
 pub record IsAcceptedAs (old new : Metadata) (s : ℕ) : Type 0 where
   pub settings : supported new ≡ supported old
   pub size : (sectors : ℕ) → size_matches new sectors ≡ size_matches old sectors
   pub any_slot : slot_matches new None ≡ Ok tt
   pub slot : slot_matches new (Some s) ≡ Ok tt
 
--- what is asked for is as the call takes it: of its types, in a slot that is there, and of metadata that are supported
+-- what the call requires of its arguments: values of their types, a slot that exists, and metadata that are supported
 pub record IsAskedFor (asked : KeyChange) : Type 0 where
   pub whole : IsWhole asked.meta
   pub checked : IsOk (supported asked.meta)
   pub there : asked.slot < 2
   pub master : IsMasterKey asked.master
 
--- nothing is refused, and these are the new metadata, of the user key that the components make under their salt and
--- iterations
+-- nothing is refused, and these are the new metadata, with the user key that the components make under the salt and the
+-- iterations in them
 pub record MakesKey (asked : KeyChange) (m : Metadata) : Type 0 where
   pub given : IsAskedFor asked
   pub served : change_refusal asked ≡ None
@@ -89,8 +89,8 @@ pub record MakesKey (asked : KeyChange) (m : Metadata) : Type 0 where
   pub metadata : m ≡ with_key asked key.bytes
   pub whole : IsWhole m
 
--- of what use new metadata are: they are read again where their version is one that is read, they are accepted, the
--- slot opens to the master key with the user key u, and the other slot is kept
+-- the new metadata can be used: they are read back if their version is one that is read, they are accepted, the slot
+-- opens to the master key with the user key u, and the other slot is kept
 pub record HasNewKey (asked : KeyChange) (m : Metadata) (u : List ℕ) : Type 0 where
   pub read : IsTrue (is_served m.version m.flags) → metadata_in (encoded m) ≡ Ok m
   pub accepted : IsAcceptedAs asked.meta m asked.slot

@@ -34,8 +34,8 @@ metadata_of options sectors salt slot0 slot1 = record {
   mkeys = slot0 ++ slot1;
 }
 
--- the metadata by the random bytes and the user key u: the master key that they have is wrapped in slot 0, and
--- slot 1 has filler
+-- the metadata from the random bytes and the user key u: the master key among the random bytes is wrapped in slot 0,
+-- and slot 1 has filler
 abbrev pub new_metadata : InitOptions → ℕ → List ℕ → List ℕ → Metadata
 new_metadata options sectors random u =
     metadata_of options sectors (salt_in random) (wrapped (master_key_in random) u options.keylen) (filler_in random)

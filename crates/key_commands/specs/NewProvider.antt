@@ -1,4 +1,4 @@
--- What `init` answers, and what it does to the disk and the entropy (geli(8), init).
+-- What `init` returns, and what it does to the disk and the entropy (geli(8), init).
 use Rattle.std.specs.Prelude.{◌≡◌, ℕ, List, length, None, Some, Result, Ok, Err}
 use Rattle.aes_core.specs.Schedule.{AreBytes}
 use Rattle.block_traits.specs.Disk.{DiskState, FailsIn, Logs}
@@ -21,7 +21,7 @@ use Rattle.key_commands.specs.Random.{random_size, salt_in}
 abbrev pub init_events : DiskState → Metadata → List Event
 init_events disk m = replace_events disk m
 
--- nothing is refused, the random bytes are taken, and the metadata are those that are made of them and of the user key
+-- nothing is refused, the random bytes are taken, and the metadata are made from the random bytes and from the user key
 -- of these components
 pub record MakesMetadata (options : InitOptions) (parts : Components) (sectors : ℕ) (old : EntropyState) (m : Metadata) (new : EntropyState) : Type 0 where
   pub served : early_refusal options parts sectors ≡ None
@@ -53,7 +53,7 @@ pub record HasNoRandom (options : InitOptions) (parts : Components) (disk : Disk
   pub none : TakesNone entropy entropy'
   pub unchanged : disk' ≡ disk
 
--- it is refused, and nothing was done
+-- `init` is refused, and nothing was done
 pub record RefusesInit (options : InitOptions) (parts : Components) (disk : DiskState) (entropy : EntropyState) (refusal : Refusal) (disk' : DiskState) (entropy' : EntropyState) : Type 0 where
   pub cause : early_refusal options parts disk.size ≡ Some refusal
   pub disk_unchanged : disk' ≡ disk

@@ -17,14 +17,13 @@ abbrev pub key_refusal : Result UserKey KeyFault → Option Refusal
 key_refusal (Ok key) = None
 key_refusal (Err fault) = Some (key_refusal_of fault)
 
--- of refusals in their order, each with its condition, the first whose condition holds, or else what the key is refused
--- for
+-- the first refusal of a list whose condition holds, or else the refusal of the key
 abbrev pub first_or_key : List (Bool × Refusal) → Result UserKey KeyFault → Option Refusal
 first_or_key [] key = key_refusal key
 first_or_key ((holds, refusal) ∷ others) key = if holds then Some refusal else first_or_key others key
 
--- The first refusal that holds of an image of so many device sectors. One of fewer than two has no logical
--- sector. Whether components make a key is the same under every salt, so it is asked with none.
+-- The first refusal that holds for an image of so many device sectors. An image of fewer than two has no logical
+-- sector. Whether components make a key doesn't depend on the salt, so the empty salt decides it here.
 abbrev pub early_refusal : InitOptions → Components → ℕ → Option Refusal
 early_refusal options parts sectors = first_or_key (
     (not (allows_length options.cipher options.keylen), refusals.BadKeyLength options.keylen)

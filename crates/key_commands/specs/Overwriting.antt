@@ -15,7 +15,8 @@ use Rattle.key_commands.specs.NewKey.{is_only_key}
 use Rattle.key_commands.specs.declared.overwriting.Which.{Which}
 use Rattle.key_commands.specs.declared.overwriting.Which.TheVariants as slots
 
--- the first refusal that holds: one slot that is named exists, holds a key, and isn't the only one that does
+-- the first refusal that holds: a slot that is named alone must exist, hold a key, and not be the only one that does,
+-- unless forced
 abbrev pub deletion_refusal : Metadata → Which → Bool → Option Refusal
 deletion_refusal m slots.All force = None
 deletion_refusal m (slots.One slot) force = first_that_holds (
@@ -29,7 +30,7 @@ abbrev pub IsThere : Which → Type 0
 IsThere slots.All = Unit {0}
 IsThere (slots.One slot) = slot < 2
 
--- which holds in one way at most, for the ghost field of what clears them
+-- two proofs that the named slots exist are equal, as the ghost field of a pass requires
 pub IsThere-prop : (which : Which) → IsProp (IsThere which)
 IsThere-prop slots.All = Unit-prop
 IsThere-prop (slots.One slot) = le_prop
@@ -49,7 +50,7 @@ abbrev pub without_keys : Metadata → Which → List ℕ → Metadata
 without_keys m slots.All bytes = record m { keys = bit_and m.keys 252; mkeys = bytes }
 without_keys m (slots.One slot) bytes = without_slot m slot bytes
 
--- the random bytes of all passes: there are six, and the last one has none
+-- how many random bytes all passes take: there are six passes, and the last one takes none
 abbrev pub filler_size : Which → ℕ
 filler_size which = 5 * named_size which
 
@@ -57,7 +58,7 @@ filler_size which = 5 * named_size which
 abbrev pub sector_without : Metadata → Which → List ℕ → List ℕ
 sector_without m which bytes = encoded (without_keys m which bytes)
 
--- the sectors of the six passes, in order: with the pieces of random bytes, and at last with zeros
+-- the sectors of the six passes, in order: five with pieces of the random bytes, and the last with zeros
 unfoldable pub pass_sectors : Metadata → Which → List ℕ → List (List ℕ)
 pass_sectors m which random = map (sector_without m which) (passes_of (named_size which) random)
 
@@ -65,7 +66,7 @@ pass_sectors m which random = map (sector_without m which) (passes_of (named_siz
 abbrev pub pass_events : DiskState → Metadata → Which → List ℕ → List Event
 pass_events disk m which random = overwrite_events (last_sector disk) (pass_sectors m which random)
 
--- the value is the sector of the metadata with other bytes in the named slots, which are clear
+-- the value is the sector of the metadata with other bytes in the named slots, and these slots are clear
 pub record HasNoKey (m : Metadata) (which : Which) (value : List ℕ) : Type 0 where
   pub bytes : List ℕ
   pub size : length bytes ≡ named_size which

@@ -1,4 +1,4 @@
--- What `setkey` answers, and what it does to the disk (geli(8), setkey).
+-- What `setkey` returns, and what it does to the disk (geli(8), setkey).
 use Rattle.std.specs.Prelude.{◌≡◌, Some, Result, Ok, Err}
 use Rattle.block_traits.specs.Disk.{DiskState, FailsIn, Logs, store_events}
 use Rattle.eli_base.specs.declared.refusals.Refusal.{Refusal}
@@ -7,7 +7,7 @@ use Rattle.eli_metadata.specs.Format.{encoded}
 use Rattle.eli_metadata.specs.declared.metadata.Metadata.{Metadata}
 use Rattle.key_commands.specs.NewKey.{KeyChange, MakesKey, change_refusal}
 
--- the new metadata were written with both events, and nothing was read
+-- the new metadata were written and flushed, and nothing was read
 pub record WritesKey (asked : KeyChange) (disk : DiskState) (m : Metadata) (disk' : DiskState) : Type 0 where
   pub makes : MakesKey asked m
   pub logs : Logs (store_events disk (encoded m)) disk disk'
@@ -20,7 +20,7 @@ pub record WritesKeyPart (asked : KeyChange) (disk disk' : DiskState) : Type 0 w
   pub fails : FailsIn (store_events disk (encoded m)) disk disk'
   pub unasked : disk'.reads ≡ disk.reads
 
--- it is refused, and nothing was done
+-- the new key is refused, and nothing was done
 pub record RefusesKey (asked : KeyChange) (disk : DiskState) (refusal : Refusal) (disk' : DiskState) : Type 0 where
   pub cause : change_refusal asked ≡ Some refusal
   pub unchanged : disk' ≡ disk

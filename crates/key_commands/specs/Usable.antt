@@ -1,4 +1,4 @@
--- That the metadata of a new provider are of use: they are read again, a provider with them can be used, and a user key
+-- That the metadata of a new provider can be used: they are read back, a provider with them is accepted, and a user key
 -- opens them (g_eli.h, eli_metadata_decode and eli_metadata_crypto_supported; geli(8), init and attach).
 use Rattle.std.specs.Prelude.{◌≡◌, ◌≤◌, ℕ, ◌*◌, List, false, None, Some, Ok}
 use Rattle.eli_base.specs.Units.{media_sectors}
@@ -11,7 +11,7 @@ use Rattle.user_key.specs.declared.components.Components.{Components}
 use Rattle.user_key.specs.declared.components.UserKey.{UserKey}
 use Rattle.key_commands.specs.declared.options.InitOptions.{InitOptions}
 
--- what metadata by these options say of the data of an image of so many device sectors
+-- what metadata with these options say about the data of an image of so many device sectors
 abbrev pub settings_for : InitOptions → ℕ → Settings
 settings_for options sectors = record {
   version = 7;
@@ -23,20 +23,20 @@ settings_for options sectors = record {
   readonly = false;
 }
 
--- nothing is refused of the metadata: they have the settings of the options, the size of the image, and a key in slot 0
+-- nothing in the metadata is refused: they have the settings of the options, the size of the image, and a key in slot 0
 pub record IsAccepted (options : InitOptions) (sectors : ℕ) (m : Metadata) : Type 0 where
   pub settings : supported m ≡ Ok (settings_for options sectors)
   pub size : size_matches m sectors ≡ Ok tt
   pub any_slot : slot_matches m None ≡ Ok tt
   pub slot_0 : slot_matches m (Some 0) ≡ Ok tt
 
--- slot 0 opens with the user key u to this master key, and so does the first slot that opens
+-- the user key u opens slot 0 to this master key, and slot 0 is the first slot that it opens
 pub record OpensFirst (m : Metadata) (u master : List ℕ) : Type 0 where
   pub slot_0 : unwrapped m u 0 ≡ Some (record { bytes = master })
   pub any_slot : unwrapped_any m u ≡ Some (record { bytes = master }, 0)
 
--- the sector of the metadata is read as them, they are accepted, there is a whole logical sector beside them, and the
--- user key that the components make under their salt and their iterations opens them to this master key
+-- the metadata are read back from their sector, they are accepted, the image has a whole logical sector beside them,
+-- and the user key that the components make under the salt and iterations in them opens them to this master key
 pub record IsUsable (options : InitOptions) (parts : Components) (sectors : ℕ) (m : Metadata) (key : UserKey) (master : List ℕ) : Type 0 where
   pub read : metadata_in (encoded m) ≡ Ok m
   pub accepted : IsAccepted options sectors m

@@ -7,17 +7,17 @@ use block_traits::{Entropy, MetaPlace, overwrite_last};
 use eli_base::Refusal;
 use eli_metadata::Metadata;
 
-/// Takes the keys of the named slots out of the metadata: clears their bits, and overwrites them, five times with
-/// random bytes and then with zeros (geli(8), `delkey`). Answers the metadata that are then in force.
+/// Takes the keys of the named slots out of the metadata: clears the slots' bits, and overwrites the slots, five
+/// times with random bytes and then with zeros (geli(8), `delkey`). Returns the metadata that are then in force.
 ///
-/// `meta` are the metadata as they stand. Each pass stores them. From the first flush on the last sector holds
-/// none in which a named slot is set (`delkey_leaves_old_or_cleared`). The other slot stays
-/// (`delkey_keeps_the_other_key`).
+/// `meta` are the metadata as they stand. Each pass stores them with other bytes in the named slots. From the first
+/// flush on, the last sector holds no metadata in which a named slot is set (`delkey_leaves_old_or_cleared`). A slot
+/// that isn't named is kept (`delkey_keeps_the_other_key`).
 ///
-/// In this order it is refused as `KeyNumberOutOfRange`, `KeyNotSet` or, unless `force`, as `LastKey` (one slot
-/// is named, and the other holds no key), and then nothing was done; as `EntropyFault`, only where the entropy
-/// failed, and then the disk is as it was; as `DeviceFault`, only where the disk failed. `All` is served also
-/// where no slot holds a key. The random bytes are taken in one call, before the first event of the disk.
+/// Refusals are returned in this order: `KeyNumberOutOfRange`, `KeyNotSet` and, unless `force`, `LastKey` (one slot
+/// is named, and the other holds no key), and then nothing was done; `EntropyFault`, only if the entropy failed, and
+/// then the disk is as it was; `DeviceFault`, only if the disk failed. `All` is served even if no slot holds a key.
+/// The random bytes are taken in one call, before the first event of the disk.
 pub fn delkey<P: MetaPlace, E: Entropy>(
     place: &mut P,
     meta: &Metadata,

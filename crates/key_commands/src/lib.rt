@@ -1,7 +1,7 @@
 //! The commands that change the keys of a GELI provider in its metadata (geli(8)).
 //!
-//! `init` makes a new provider of a disk, `setkey` puts a new key into a slot, and `delkey` takes keys out. No
-//! call takes memory.
+//! `init` makes a new provider of a disk, `setkey` puts a new key into a slot, and `delkey` takes keys out. No call
+//! allocates memory.
 #![tactic(auto)]
 
 mod delete_keys;

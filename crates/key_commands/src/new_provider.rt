@@ -62,19 +62,18 @@ fn metadata_of(options: &InitOptions, sectors: u64, random: &RandomParts, key: &
 }
 
 /// Makes a new provider of a disk: its last sector gets new metadata, with a new master key that the user
-/// key of these components opens in slot 0. Answers the metadata.
+/// key of these components opens in slot 0. Returns the metadata.
 ///
-/// The metadata are of use (`what_init_makes_is_of_use`): read from their sector they are the same, they pass
-/// `check`, `size_gate` and `slot_gate` for this disk, a whole logical sector is beside them, and the key that
-/// `derive` gives by their own salt and iterations opens them to the master key among the random bytes.
+/// The metadata can be used (`what_init_makes_is_of_use`): reading their sector gives them back, they pass `check`,
+/// `size_gate` and `slot_gate` for this disk, and the disk has room for a whole logical sector beside them. The key
+/// that `derive` makes with their salt and iterations opens them to the master key among the random bytes.
 ///
 /// At each moment the last sector holds what it might hold before or the new metadata (`init_leaves_old_or_new`).
 ///
-/// In this order it is refused as `BadKeyLength`, `BadSectorSize` or `TooSmall` (in bytes: fewer than two
-/// device sectors, or no whole logical sector), or as the components of the key are, and then nothing was
-/// done; as `EntropyFault`, only where the entropy failed, and then the disk is as it was; as
-/// `DeviceFault`, only where the disk failed. The random bytes are taken in one call, before the first
-/// event of the disk.
+/// Refusals are returned in this order: `BadKeyLength`, `BadSectorSize`, `TooSmall` (in bytes: fewer than two device
+/// sectors, or no whole logical sector), and the refusal of the key's components, and then nothing was done;
+/// `EntropyFault`, only if the entropy failed, and then the disk is as it was; `DeviceFault`, only if the disk failed.
+/// The random bytes are taken in one call, before the first event of the disk.
 pub fn init<D: Disk, E: Entropy>(
     disk: &mut D,
     options: &InitOptions,

@@ -23,7 +23,7 @@ pub struct InitOptions {
     pub keylen: u16,
     /// The bytes of a logical sector, `-s`.
     pub sectorsize: u32,
-    /// The iterations of PBKDF2, `-i`: -1 where no passphrase is set up, 0 where PBKDF2 isn't used.
+    /// The iterations of PBKDF2, `-i`: -1 if no passphrase is set up, 0 if PBKDF2 isn't used.
     pub iterations: i32,
     /// Whether the provider is to grow with its image; `-R` says that it isn't.
     pub autoresize: bool,

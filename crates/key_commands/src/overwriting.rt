@@ -96,7 +96,7 @@ pub fn cleared(meta: &Metadata, which: Which) -> Metadata
     without_keys(*meta, which, &ZEROS[..named_size(which)])
 }
 
-// A pass makes of its bytes the sector of the metadata with them in the named slots.
+// A pass makes the sector of the metadata with the pass's bytes in the named slots.
 #[derive(Drop)]
 struct Clearing {
     meta: Metadata,

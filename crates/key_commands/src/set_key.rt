@@ -15,7 +15,7 @@ use eli_metadata::Metadata;
 use key_slots::{put_slot, wrap};
 use user_key::{Components, PassPart, UserKey, derive};
 
-// The iterations that a passphrase brings where none was set up.
+// The iterations for a passphrase if none was set up before.
 const USUAL_ITERATIONS: i32 = 100_000;
 
 fn new_iterations(given: Option<i32>, passphrase: &PassPart, kept: i32) -> i32
@@ -89,17 +89,17 @@ fn changed(
 }
 
 /// Wraps the master key for a new user key, made of these components, in the slot `target`, and stores the
-/// metadata (geli(8), `setkey`). Answers the metadata that are then in force.
+/// metadata (geli(8), `setkey`). Returns the metadata that are then in force.
 ///
 /// `meta` are the metadata as they stand, which `check` accepts, and `master` is the master key that one of
-/// their slots opens to. The slot's bit is set. The iterations become those that are given, or 100,000 where a
-/// passphrase is given and none was set up. All else stays: the salt, the other slot, and so each key that opens
-/// it (`what_setkey_makes_is_of_use`). At each moment the last sector holds what it might hold before or the new
-/// metadata, and once it's done these alone (`setkey_leaves_old_or_new`).
+/// their slots opens to. The slot's bit is set. The iterations become those that are given, or 100,000 if a
+/// passphrase is given and none was set up. All else stays: the salt and the other slot, so each key that opens the
+/// other slot still does (`what_setkey_makes_is_of_use`). At each moment the last sector holds what it might hold
+/// before or the new metadata, and once the call is done the new metadata alone (`setkey_leaves_old_or_new`).
 ///
-/// In this order it is refused as `IterationsNeedOneKey`, exactly where iterations are given and the slots that
-/// hold a key aren't the target alone, or as `derive` refuses the components under the new iterations, and then
-/// nothing was done; as `DeviceFault`, only where the disk failed.
+/// Refusals are returned in this order: `IterationsNeedOneKey`, exactly if iterations are given and the slots that
+/// hold a key aren't the target alone, and the refusal of `derive` for the components under the new iterations, and
+/// then nothing was done; `DeviceFault`, only if the disk failed.
 pub fn setkey<P: MetaPlace>(
     place: &mut P,
     meta: &Metadata,

@@ -6,7 +6,7 @@ ghost use Rattle.eli_metadata.specs.Format.{encoded, is_served, metadata_in};
 use block_traits::{DiskFailed, MetaPlace};
 use eli_metadata::{Metadata, encode};
 
-/// Stores metadata in their place, and reads nothing. Metadata of a version that is served are then read again.
+/// Stores metadata in their place, and reads nothing. Metadata of a version that is served can be read back.
 pub fn store<P: MetaPlace>(place: &mut P, meta: &Metadata) -> Result<(), DiskFailed>
     requires { 0 < (P.state place.old).size }
     ensures read { IsTrue (is_served meta.now.version meta.now.flags) → metadata_in (encoded meta.now) ≡ Ok meta.now }

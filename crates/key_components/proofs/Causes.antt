@@ -39,7 +39,7 @@ MayRefuse-any : (old new : CabinetState) (refusal : Refusal) → MayRefuse file_
 MayRefuse-any old new (FileTooLong word limit) may = inl may
 MayRefuse-any old new refusal may = may
 
--- a refusal of the files of a key is one that may come
+-- a refusal of the files of a key is one that may come at such a file
 pub StopsAtFile-cause : (line : List ℕ) (words : KeyWords) (old : CabinetState) (refusal : Refusal) (new : CabinetState) → StopsAtFile line words old refusal new → MayRefusePassphrase old new refusal
 StopsAtFile-cause line words old refusal new (inl at) = MayRefuse-any old new refusal at.cause
 StopsAtFile-cause line words old refusal new (inr at) = at.cause

@@ -26,7 +26,7 @@ line_is word used (Some bytes) file result loaded answer =
     let parts = was_loaded word (nat_le (length bytes) file_limit) bytes file loaded in
     rw (not_too_long bytes parts.0, ← parts.1) answer
 
--- the answer for the first line is that for the file
+-- the result for the first line is the result for the file
 pub PassphraseIs : (word used : ℕ) (told : Option Files) (name file : List ℕ) (result : Result (List ℕ) Refusal)
     → IfSome told (λ files. IsAnswer (file_answer word file_limit (files name)) (Ok file))
     → IsAnswer (unless_refused (line_fault word used file) (first_line file)) result

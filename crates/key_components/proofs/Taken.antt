@@ -36,7 +36,7 @@ joined_files-more taking files line spans span =
     ∙ flat_map-append taking.piece (map (named_bytes files line) spans) (named_bytes files line span ∷ [])
     ∙ ap (λ bytes. joined_files taking files line spans ++ bytes) (append-nil (taking.piece (named_bytes files line span)))
 
--- no file so far had a fault, and these bytes of them count
+-- no file so far had a fault, and these are the bytes of the files that count
 pub record Taken (taking : Taking) (files : Files) (line : List ℕ) (spans : List Span) (got : List ℕ) : Type 0 where
   pub fault : first_fault taking files line 0 spans ≡ None
   pub bytes : got ≡ joined_files taking files line spans
@@ -62,7 +62,7 @@ Taken-more taking files line spans bytes span piece taken good is = record {
   bytes = ap (λ b. b ++ piece) taken.bytes ∙ ap (λ b. joined_files taking files line spans ++ b) is ∙ sym (joined_files-more taking files line spans span);
 }
 
--- a value is answered only where nothing is refused
+-- a value is returned only if nothing is refused
 unless_refused-ok : {T : Type 0} (fault : Option Refusal) (value got : T) → Ok got ≡ unless_refused fault value → (fault ≡ None) × (got ≡ value)
 unless_refused-ok None value got is = (refl, cc)
 unless_refused-ok (Some refusal) value got is = cc
@@ -76,11 +76,11 @@ IsRefusal-weaker answer other (CabinetFault word) same is = tt
 IsRefusal-weaker answer other NoMemory same is = tt
 IsRefusal-weaker answer other refusal same is = same is
 
--- these bytes were taken from the files of these spans, where the files are reported
+-- these bytes were taken from the files of these spans, if the cabinet reports its files
 abbrev pub TakenSo : Taking → Option Files → List ℕ → List Span → List ℕ → Type 0
 TakenSo taking told line spans bytes = IfSome told (λ files. Taken taking files line spans bytes)
 
--- the answer for the file of one span
+-- the result for the file of one span
 abbrev pub PieceIs : Taking → Option Files → List ℕ → ℕ → Span → Result (List ℕ) Refusal → Type 0
 PieceIs taking told line used span result =
     IfSome told (λ files. IsAnswer (unless_refused (taking.fault span.word used (files (bytes_at line span))) (taking.piece (named_bytes files line span))) result)
@@ -93,7 +93,7 @@ TakenSo-more taking (Some files) line spans bytes span piece taken is =
     let parts = unless_refused-ok (taking.fault span.word (length bytes) (files (bytes_at line span))) (taking.piece (named_bytes files line span)) piece is in
     Taken-more taking files line spans bytes span piece taken parts.0 parts.1
 
--- the answer for all files of an option
+-- the result for all files of an option
 abbrev pub PartIs : Taking → Option Files → List ℕ → List Span → Result (List ℕ) Refusal → Type 0
 PartIs taking told line spans result =
     IfSome told (λ files. IsAnswer (unless_refused (first_fault taking files line 0 spans) (joined_files taking files line spans)) result)
@@ -128,17 +128,17 @@ IsAt-refused : (taking : Taking) (told : Option Files) (line : List ℕ) (spans 
     → IfSome (refused_word refusal) (IsAt taking told line (spans ++ span ∷ behind))
 IsAt-refused taking told line spans bytes span behind refusal taken named = at_word taking told line spans bytes span behind (refused_word refusal) taken named
 
--- a list about one of its places
+-- a list, cut before and after one of its elements
 split_at : (spans : List Span) (place : ℕ) (other : Span) → place < length spans → spans ≡ take place spans ++ get_or spans place other ∷ drop (suc place) spans
 split_at spans place other within = sym (rw (← drop-cons spans place other within) (take-append-drop place spans))
 
--- what is answered for a file while the files are those of the beginning
+-- the result for a file, if the files are still those of the beginning
 PieceIs-kept : (taking : Taking) (told now : Option Files) (line : List ℕ) (used bytes : ℕ) (span : Span) (result : Result (List ℕ) Refusal)
     → now ≡ told → used ≡ bytes → PieceIs taking now line used span result → PieceIs taking told line bytes span result
 PieceIs-kept taking told now line used bytes span result kept same is =
     subst (λ files. PieceIs taking files line bytes span result) kept (subst (λ n. PieceIs taking now line n span result) same is)
 
--- the next file of a list is refused, and so all are
+-- if the next file of a list is refused, its refusal is the result for the whole list
 pub PartIs-stopped : (taking : Taking) (told now : Option Files) (line : List ℕ) (spans : List Span) (place : ℕ) (other : Span) (bytes : List ℕ) (used : ℕ) (refusal : Refusal)
     → place < length spans → TakenSo taking told line (take place spans) bytes → now ≡ told → used ≡ length bytes
     → PieceIs taking now line used (get_or spans place other) (Err refusal)

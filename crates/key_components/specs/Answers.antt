@@ -1,4 +1,4 @@
--- What loading answers, and when a refusal may come.
+-- What loading returns, and when a refusal may come.
 use Rattle.std.specs.Prelude.{◌≡◌, ◌<◌, ◌≤◌, ◌+◌, ◌⊎◌, ℕ, List, ◌∷◌, ◌++◌, length, get_or, Option, None, Some, IfSome, Result, Ok, Err}
 use Rattle.block_traits.specs.Cabinet.{CabinetState, Files, load_answer}
 use Rattle.block_traits.specs.Causes.{Counted, Rose}
@@ -16,7 +16,7 @@ abbrev pub unless_refused : {T : Type 0} → Option Refusal → T → Result T R
 unless_refused None value = Ok value
 unless_refused (Some refusal) value = Err refusal
 
--- the refusal of a file that the word names, by what a load of it answers; one that is too long names this limit
+-- the refusal of a file that the word names, by the fault of its load; `FileTooLong` names this limit
 abbrev pub file_refusal_of : ℕ → ℕ → LoadFault → Refusal
 file_refusal_of word named load.Absent = FileAbsent word
 file_refusal_of word named load.TooLong = FileTooLong word named
@@ -27,26 +27,26 @@ abbrev pub refused : ℕ → ℕ → Result (List ℕ) LoadFault → Result (Lis
 refused word named (Ok bytes) = Ok bytes
 refused word named (Err fault) = Err (file_refusal_of word named fault)
 
--- the answer for one file that has room for so many bytes, of a limit that other files may share
+-- the result for one file that may have `room` bytes, which is what other files left of the limit `named`
 abbrev pub room_answer : ℕ → ℕ → ℕ → Option (List ℕ) → Result (List ℕ) Refusal
 room_answer word named room file = refused word named (load_answer file room)
 
--- the answer for one file of a limited length
+-- the result for one file with a limit of its own
 abbrev pub file_answer : ℕ → ℕ → Option (List ℕ) → Result (List ℕ) Refusal
 file_answer word limit file = room_answer word limit limit file
 
--- it is refused so, or the cabinet failed, or there was no memory; every other refusal is the answer
+-- the cabinet failed, or there was no memory, or the refusal is the one expected
 abbrev pub IsRefusal : {T : Type 0} → Result T Refusal → Refusal → Type 0
 IsRefusal answer (CabinetFault word) = Unit {0}
 IsRefusal answer NoMemory = Unit {0}
 IsRefusal answer refusal = Err refusal ≡ answer
 
--- it is answered, or the cabinet failed, or there was no memory
+-- the result is the one expected, or the cabinet failed, or there was no memory
 abbrev pub IsAnswer : {T : Type 0} → Result T Refusal → Result T Refusal → Type 0
 IsAnswer answer (Ok value) = Ok value ≡ answer
 IsAnswer answer (Err refusal) = IsRefusal answer refusal
 
--- The number of the word that the refusal of a file names. Each refusal stands here, so that a later one is decided on.
+-- The number of the word that the refusal of a file names. Each refusal is listed, so a new one can't be forgotten.
 abbrev pub refused_word : Refusal → Option ℕ
 refused_word (refusals.Usage word reason) = None
 refused_word refusals.UnknownProvider = None
@@ -97,7 +97,7 @@ refused_word (refusals.BadPlace place media) = None
 refused_word refusals.NotAuthenticated = None
 refused_word (refusals.BadPlaceFile word length) = Some word
 
--- the word is that of a file, and the files before it are without fault, where that is reported
+-- the word is that of a file, and the files before it have no fault, if the cabinet reports its files
 pub record IsAt (taking : Taking) (told : Option Files) (line : List ℕ) (spans : List Span) (word : ℕ) : Type 0 where
   pub before : List Span
   pub span : Span
@@ -106,8 +106,8 @@ pub record IsAt (taking : Taking) (told : Option Files) (line : List ℕ) (spans
   pub named : span.word ≡ word
   pub served : IfSome told (λ files. first_fault taking files line 0 before ≡ None)
 
--- the word is that of a passphrase file; all key files, and the passphrase files before it, are without fault, where
--- that is reported
+-- the word is that of a passphrase file, and all key files and the passphrase files before it have no fault, if the
+-- cabinet reports its files
 pub record IsOfPassphrases (told : Option Files) (line : List ℕ) (words : KeyWords) (word : ℕ) : Type 0 where
   pub keys : IfSome told (λ files. first_fault key_files files line 0 words.files ≡ None)
   pub at : IsAt passphrase_files told line words.pass word
@@ -118,7 +118,7 @@ pub record KeepsFiles (old new : CabinetState) : Type 0 where
   pub faults : old.faults ≤ new.faults
   pub misses : old.misses ≤ new.misses
 
--- whether one file of this limit may be refused so, by what the cabinet was before and is now; no other refusal comes
+-- the refusals that may come for one file with this limit, by the state of the cabinet before and after
 abbrev pub MayRefuse : ℕ → CabinetState → CabinetState → Refusal → Type 0
 MayRefuse named old new (CabinetFault word) = Rose old.faults new.faults
 MayRefuse named old new (FileAbsent word) = Rose old.misses new.misses
@@ -126,8 +126,8 @@ MayRefuse named old new (FileTooLong word limit) = (limit ≡ named) × Rose old
 MayRefuse named old new NoMemory = Unit {0}
 MayRefuse named old new refusal = ⊥
 
--- whether one passphrase file may be refused so: as any file, or because its first line is too long, which the cabinet
--- doesn't count
+-- the refusals that may come for one passphrase file: those of any file, and that its first line is too long, which the
+-- cabinet doesn't count as a miss
 abbrev pub MayRefusePassphrase : CabinetState → CabinetState → Refusal → Type 0
 MayRefusePassphrase old new (FileTooLong word limit) = MayRefuse file_limit old new (FileTooLong word limit) ⊎ (limit ≡ passphrase_limit)
 MayRefusePassphrase old new refusal = MayRefuse file_limit old new refusal
@@ -136,29 +136,29 @@ MayRefusePassphrase old new refusal = MayRefuse file_limit old new refusal
 abbrev pub file_word_at : List Span → ℕ → ℕ
 file_word_at files place = (get_or files place (record { start = 0; end = 0; word = 0 })).word
 
--- loading stopped at one of these files: those before it and it were loaded, no other, and a word that is named is its
--- own
+-- loading stopped at one of these files: this file and those before it were loaded, no other was, and if the refusal
+-- names a word, it is the word of this file
 pub record StopsLoading (files : List Span) (old : CabinetState) (refusal : Refusal) (new : CabinetState) : Type 0 where
   pub place : ℕ
   pub within : place < length files
   pub named : IfSome (refused_word refusal) (λ word. file_word_at files place ≡ word)
   pub asked : Counted (place + 1) old.loads new.loads
 
--- these files were loaded, one after another, and no other, up to the one that was refused
+-- these files and no others were loaded, one after another, up to the one that was refused, if one was
 abbrev pub LoadsEach : {T : Type 0} → List Span → CabinetState → Result T Refusal → CabinetState → Type 0
 LoadsEach files old (Ok value) new = Counted (length files) old.loads new.loads
 LoadsEach files old (Err refusal) new = StopsLoading files old refusal new
 
--- loading stopped at a key file that was reached, with a refusal that may come there
+-- loading stopped at a key file that was reached, with a refusal that may come at a key file
 pub record StopsAtKeyFile (line : List ℕ) (words : KeyWords) (old : CabinetState) (refusal : Refusal) (new : CabinetState) : Type 0 where
   pub word : IfSome (refused_word refusal) (IsAt key_files old.files line words.files)
   pub cause : MayRefuse file_limit old new refusal
 
--- it stopped so at a passphrase file
+-- loading stopped at a passphrase file that was reached, with a refusal that may come at a passphrase file
 pub record StopsAtPassphraseFile (line : List ℕ) (words : KeyWords) (old : CabinetState) (refusal : Refusal) (new : CabinetState) : Type 0 where
   pub word : IfSome (refused_word refusal) (IsOfPassphrases old.files line words)
   pub cause : MayRefusePassphrase old new refusal
 
--- it stopped so at one of the files of a key
+-- loading stopped at one of the files of a key, with a refusal that may come at such a file
 abbrev pub StopsAtFile : List ℕ → KeyWords → CabinetState → Refusal → CabinetState → Type 0
 StopsAtFile line words old refusal new = StopsAtKeyFile line words old refusal new ⊎ StopsAtPassphraseFile line words old refusal new

@@ -16,18 +16,19 @@ file_limit = 1048576
 abbrev pub passphrase_limit : ℕ
 passphrase_limit = 1024
 
--- how the files of an option are taken: what counts of a file, and what is wrong with the file that a word
--- names, where so many bytes counted before it
+-- how the files of an option are taken: what counts of a file, and what is wrong with the file that a word names, after
+-- so many bytes of the files before it
 pub record Taking : Type 0 where
   pub piece : List ℕ → List ℕ
   pub fault : ℕ → ℕ → Option (List ℕ) → Option Refusal
 
--- key files together are no longer than one file may be
+-- what is wrong with a key file: key files together may be no longer than one file may be
 abbrev pub key_file_fault : ℕ → ℕ → Option (List ℕ) → Option Refusal
 key_file_fault word used None = Some (FileAbsent word)
 key_file_fault word used (Some file) = if nat_lt file_limit (used + length file) then Some (FileTooLong word file_limit) else None
 
--- a passphrase file is no longer than a file may be, and the first lines together no longer than a passphrase
+-- what is wrong with a passphrase file: it may be no longer than a file may be, and the first lines together may be no
+-- longer than a passphrase
 abbrev pub passphrase_fault : ℕ → ℕ → Option (List ℕ) → Option Refusal
 passphrase_fault word used None = Some (FileAbsent word)
 passphrase_fault word used (Some file) =
@@ -38,7 +39,7 @@ passphrase_fault word used (Some file) =
 abbrev pub key_files : Taking
 key_files = record { piece = λ file. file; fault = key_file_fault }
 
--- of a passphrase file the first line counts
+-- of a passphrase file only the first line counts
 abbrev pub passphrase_files : Taking
 passphrase_files = record { piece = first_line; fault = passphrase_fault }
 
@@ -50,7 +51,7 @@ named_bytes files line span = unwrap_or (files (bytes_at line span)) []
 abbrev pub joined_files : Taking → Files → List ℕ → List Span → List ℕ
 joined_files taking files line spans = flat_map taking.piece (map (named_bytes files line) spans)
 
--- the first refusal of some files in order, where so many bytes counted before them
+-- the first refusal of some files in order, after so many bytes of the files before them
 abbrev pub first_fault : Taking → Files → List ℕ → ℕ → List Span → Option Refusal
 first_fault taking files line used [] = None
 first_fault taking files line used (span ∷ spans) =

@@ -11,7 +11,7 @@ use Rattle.user_key.specs.Passphrase.{joined_passphrase}
 use Rattle.key_components.specs.Answers.{unless_refused}
 use Rattle.key_components.specs.Files.{named_bytes, file_limit, first_fault, joined_files, key_files, passphrase_files, passphrase_limit}
 
--- the passphrase, which an option may rule out, and which is missing where no file is named
+-- the passphrase, which an option may rule out, and which is missing if no file is named
 abbrev pub passphrase_of : KeyWords → List ℕ → PassPart
 passphrase_of words passphrase = if words.without then Without else (if length words.pass == 0 then Missing else Given passphrase)
 
@@ -19,7 +19,7 @@ passphrase_of words passphrase = if words.without then Without else (if length w
 abbrev pub key_fault : Files → List ℕ → KeyWords → Option Refusal
 key_fault files line words = option_or (first_fault key_files files line 0 words.files) (first_fault passphrase_files files line 0 words.pass)
 
--- the components, or that refusal
+-- the components, or the first refusal of the files
 abbrev pub components_of : Files → List ℕ → KeyWords → Result Components Refusal
 components_of files line words = unless_refused (key_fault files line words) (record {
   keyfile_count = length words.files;

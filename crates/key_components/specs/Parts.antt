@@ -13,16 +13,16 @@ abbrev pub taking_of : Part → Taking
 taking_of KeyFiles = key_files
 taking_of Passphrase = passphrase_files
 
--- whether a file of the kind may be refused so
+-- the refusals that may come for a file of this kind
 abbrev pub MayRefuseOf : Part → CabinetState → CabinetState → Refusal → Type 0
 MayRefuseOf KeyFiles = MayRefuse file_limit
 MayRefuseOf Passphrase = MayRefusePassphrase
 
--- what is wrong with the first line of a file, where so many bytes counted before it
+-- what is wrong with the first line of a file, after so many bytes of the lines before it
 abbrev pub line_fault : ℕ → ℕ → List ℕ → Option Refusal
 line_fault word used file = if nat_lt passphrase_limit (used + length (first_line file)) then Some (FileTooLong word passphrase_limit) else None
 
--- the most bytes that count
+-- how many bytes may count, of all files of this kind together
 abbrev pub limit_of : Part → ℕ
 limit_of KeyFiles = file_limit
 limit_of Passphrase = passphrase_limit

@@ -12,7 +12,7 @@ use std::alloc::Global;
 /// The most bytes of a file, and of all key files of one option together.
 pub const FILE_LIMIT: usize = 1_048_576;
 
-// The refusal of the file that the word names, by what a load of it answered; one that is too long names this limit.
+// The refusal of the file that the word names, by the fault of its load; `FileTooLong` names the given limit.
 fn refusal(word: u32, named: usize, fault: LoadFault) -> Refusal
     ensures { result ≡ file_refusal_of word named fault }
 {
@@ -27,7 +27,7 @@ fn refusal(word: u32, named: usize, fault: LoadFault) -> Refusal
     }
 }
 
-/// Loads the file that a span of the line names, if it has at most `limit` bytes: one load of the cabinet, and no
+/// Loads the file that a span of the line names, if it has at most `limit` bytes, by one load of the cabinet and no
 /// store.
 pub fn load_file<C: Cabinet>(
     alloc: Global,
@@ -48,7 +48,8 @@ pub fn load_file<C: Cabinet>(
     load_within(alloc, line, span, limit, limit, files)
 }
 
-// Loads the file that a span of the line names, if it has at most `room` bytes, which is what is left of a limit.
+// Loads the file that a span of the line names, if it has at most `room` bytes, which is what other files left of the
+// limit `named`.
 pub(crate) fn load_within<C: Cabinet>(
     alloc: Global,
     line: &[u8],

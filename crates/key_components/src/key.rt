@@ -11,7 +11,7 @@ use eli_base::Refusal;
 use std::alloc::Global;
 use user_key::{Components, PassPart};
 
-// What the options say of the passphrase, which their files make.
+// What the options say about the passphrase, which the passphrase files make.
 fn pass_part(words: &KeyWords, passphrase: ByteList) -> PassPart
     ensures { result ≡ passphrase_of words.now passphrase }
 {
@@ -27,13 +27,13 @@ fn pass_part(words: &KeyWords, passphrase: ByteList) -> PassPart
 /// Loads the components of a key: first its key files, then its passphrase files, each from left to
 /// right. After a refusal no further file is loaded.
 ///
-/// The key files are joined, and so are the first lines of the passphrase files. Where no passphrase is
-/// wanted its files are loaded all the same, and the passphrase is `Without`.
+/// The key files are joined, and so are the first lines of the passphrase files. If an option says that there is no
+/// passphrase, passphrase files are loaded nevertheless, and the passphrase is `Without`.
 ///
-/// A refusal names the word of the file at which it arises: `CabinetFault` where the cabinet failed,
-/// `FileAbsent` where there is no such file, `FileTooLong` of 1,048,576 bytes where the key files up to
-/// this one have more, or a passphrase file alone, and of 1,024 bytes where the first lines up to that
-/// of this file have more. `NoMemory` may come at any load. Where no file is named nothing is refused.
+/// A refusal names the word of the file at which it arises: `CabinetFault` if the cabinet failed; `FileAbsent` if there
+/// is no such file; `FileTooLong` with the limit 1,048,576 if the key files up to this one have more bytes together, or
+/// this passphrase file has more alone; `FileTooLong` with the limit 1,024 if the first lines of the passphrase files
+/// up to this one have more bytes together. `NoMemory` may come at any load. If no file is named, nothing is refused.
 #[tactic(auto, using(crate::proofs::Causes::stops_behind))]
 pub fn load_components<C: Cabinet>(
     alloc: Global,
@@ -43,19 +43,20 @@ pub fn load_components<C: Cabinet>(
 ) -> Result<Components, Refusal>
     requires { KeyIsWithin (length line.now) words.now }
 
-    // If the cabinet reports its files, they decide the answer, unless it failed or there was no memory.
+    // If the cabinet reports its files, they decide the result, unless it failed or there was no memory.
     ensures answer { IfSome (C.state files.old).files (λ told. IsAnswer (components_of told line.now words.now) result) }
 
-    // In any case the components are of the kind that the words want, and within the limits.
+    // Whether or not the cabinet reports its files, the components are of the kind that the words want, and within the
+    // limits.
     ensures fits { IfOk result (FitsWords words.now) }
 
-    // A refusal names the word of a file that was reached, and has the cause of such a file.
+    // A refusal names the word of a file that was reached, and has a cause that loading this file can have.
     ensures stops { IfErr result (λ refusal. StopsAtFile line.now words.now (C.state files.old) refusal (C.state files.new)) }
 
-    // Where no file is named nothing is refused.
+    // If no file is named, nothing is refused.
     ensures named { IfErr result (λ _. 1 ≤ length words.now.files + length words.now.pass) }
 
-    // One file after another is loaded, each once, and none after the one whose word is named.
+    // The files are loaded one after another, each once, and none after a file whose word a refusal names.
     ensures asked { LoadsEach (words.now.files ++ words.now.pass) (C.state files.old) result (C.state files.new) }
 
     // No file changes, and no count falls.

@@ -1,7 +1,7 @@
 //! The components of a user key, loaded from the files that a key's options name (geli(8), the options
 //! `-J`, `-j`, `-K` and `-k`).
 //!
-//! A *key file* counts whole. Of a *passphrase file* its first line counts.
+//! A *key file* counts whole. Of a *passphrase file* only the first line counts.
 #![tactic(auto)]
 
 mod files;

@@ -26,7 +26,7 @@ pub enum Part {
     Passphrase,
 }
 
-// The first line of a file, if it and the `used` bytes before it are no longer than a passphrase.
+// The first line of a file, if this line and the `used` bytes before it are no longer than a passphrase may be.
 fn take_line(alloc: Global, file: &[u8], word: u32, used: usize) -> Result<ByteList, Refusal>
     requires { used ≤ passphrase_limit }
     ensures answer { IsAnswer (unless_refused (line_fault word used file.now) (first_line file.now)) result }
@@ -47,7 +47,7 @@ fn take_line(alloc: Global, file: &[u8], word: u32, used: usize) -> Result<ByteL
 }
 
 impl Part {
-    // What counts of the file that a span of the line names, where `used` bytes counted before it.
+    // What counts of the file that a span of the line names, after `used` bytes of the files before it.
     fn load_piece<C: Cabinet>(
         self,
         alloc: Global,
@@ -79,7 +79,7 @@ impl Part {
     }
 }
 
-/// Loads the files of one option, and joins in order what counts of them.
+/// Loads the files of one option, and joins what counts of them, in order.
 pub fn load_part<C: Cabinet>(
     alloc: Global,
     line: &[u8],

@@ -122,7 +122,7 @@ fn published_keys(rt: HostRuntime) -> Result<(), Fail> {
     Ok(())
 }
 
-// Iterations, whether the passphrase is given, and why there is no key: where it isn't given it is missing.
+// Iterations, whether the passphrase is given, and why there is no key. A passphrase that isn't given is missing.
 const REFUSALS: [(i32, bool, KeyFault); 3] = [
     (-1, true, KeyFault::PassphraseNotSet),
     (-1, false, KeyFault::PassphraseNotSet),

@@ -205,8 +205,8 @@ pub record IsInUnit (k : Keying) (j : ℕ) (r : ByteRange) : Type 0 where
   pub starts : unit_bytes_of k.auth * j ≤ skipped k r
   pub ends : skipped k r + r.count ≤ unit_bytes_of k.auth * j + unit_size k j
 
--- they aren't among the first 16 bytes of a unit that is chained to the one before it: those are lost where the two
--- stem from different writes
+-- the bytes aren't among the first 16 bytes of a unit that is chained to the one before it: those are lost if the two
+-- units stem from different writes
 abbrev pub KeepsFront : Keying → ℕ → ByteRange → Type 0
 KeepsFront k j r = (are_chained k.cipher k.auth ≡ false) ⊎ (j ≡ 0) ⊎ (unit_bytes_of k.auth * j + 16 ≤ skipped k r)
 
@@ -214,8 +214,8 @@ KeepsFront k j r = (are_chained k.cipher k.auth ≡ false) ⊎ (j ≡ 0) ⊎ (un
 abbrev pub IsSettled : Keying → Content → ℕ → Type 0
 IsSettled k now sector = (j : ℕ) → j < units k → IsUnsettled now (unit_place k sector j) → ⊥
 
--- an exchange, which is a write, gave a part of one logical sector these bytes: where the part is in its range they are
--- its own, and else beside its own what stood there before (`DidBy`)
+-- an exchange, which is a write, gave a part of one logical sector these bytes: inside the write's range its own bytes,
+-- and outside of it what stood there before (`DidBy`)
 pub record HasGivenBytes (k : Keying) (x : Exchange) (d : Deed) (part : ByteRange) (got : List ℕ) : Type 0 where
   pub covers : Covers k (range_of x.request) (first_sector k part)
   pub is : got ≡ take part.count (drop (skipped k part) (sector_given k (range_of x.request) d (first_sector k part)))
@@ -296,7 +296,7 @@ AttachesLasting {D} state k xs c deeds = (x : Exchange) (bytes : List ℕ) (part
     AttachAnswers (record { meta = m; params = params; disk = state disk }) (record { key = key; named = None; readonly = readonly }) disk result →
     AttachesAndAnswers state part (part_bytes part (range_of x.request) bytes) result
 
--- also where the sectors may have been written again
+-- whoever attaches the image reads the part so, even if the sectors may have been written again
 abbrev pub AttachesLastingOrLater : {D : Type 0} → (D → DiskState) → Keying → List Exchange → Content → List Deed → Type 0
 AttachesLastingOrLater {D} state k xs c deeds = (x : Exchange) (bytes : List ℕ) (part : ByteRange) (a : IsFlushedWrite xs x bytes) (t j : ℕ) (image : List (List ℕ)) →
     IsSettledPart k xs c deeds x bytes a t part j → IsTorn (moment t (session_steps 0 k xs deeds) c) image →

@@ -20,7 +20,7 @@ no_items (x ∷ xs) h = absurd (omega arith)
 
 -- ---- writing
 
--- the writes of m sectors and then of n more
+-- the writes of m + n sectors are those of the first m and then those of n more
 pub data_writes-more : (k : Keying) (sector m n : ℕ) (front behind : List ℕ) → length front ≡ m * k.sectorsize
     → data_writes k sector (m + n) (front ++ behind) ≡ data_writes k sector m front ++ data_writes k (sector + m) n behind
 data_writes-more k sector zero n front behind long =
@@ -44,7 +44,7 @@ data_writes-more k sector (suc m) n front behind long =
 
 -- ---- reading
 
--- what m sectors read as and then n more
+-- what m + n sectors read as is what the first m read as and then what n more do
 sector_readings-more : (k : Keying) (c : Content) (sector m n : ℕ) → sector_readings k c sector (m + n) ≡ sector_readings k c sector m ++ sector_readings k c (sector + m) n
 sector_readings-more k c sector zero n =
     let at : sector ≡ sector + zero = omega arith in
@@ -80,7 +80,7 @@ joined-front [] behind offset h = absurd cc
 joined-front (Ok bytes ∷ front) behind offset h = ap (before bytes) (joined-front front behind offset (before-err bytes (joined front) offset h))
 joined-front (Err other ∷ front) behind offset h = h
 
--- bytes of m sectors and then of n more
+-- m sectors were read as some bytes, and then n more as others
 pub ReadsFrom-both : (told now : Option Content) (k : Keying) (sector m n : ℕ) (a b : List ℕ) → now ≡ told → ReadsFrom told k sector m (Ok a) → ReadsFrom now k (sector + m) n (Ok b)
     → ReadsFrom told k sector (m + n) (Ok (a ++ b))
 ReadsFrom-both None now k sector m n a b same h g = tt
@@ -88,7 +88,7 @@ ReadsFrom-both (Some c) now k sector m n a b same h g =
     let here : data_reading k c (sector + m) n ≡ Ok b = subst (λ (told : Option Content). ReadsFrom told k (sector + m) n (Ok b)) same g in
     ap joined (sector_readings-more k c sector m n) ∙ joined-both (sector_readings k c sector m) (sector_readings k c (sector + m) n) a b h here
 
--- bytes of m sectors, a fault among n more, and others after them
+-- m sectors were read as some bytes, and n more with a fault, and others come after them
 ReadsFrom-fault : (told now : Option Content) (k : Keying) (sector m n rest : ℕ) (a : List ℕ) (offset : ℕ) → now ≡ told → ReadsFrom told k sector m (Ok a) → ReadsFrom now k (sector + m) n (Err offset)
     → ReadsFrom told k sector (m + n + rest) (Err offset)
 ReadsFrom-fault None now k sector m n rest a offset same h g = tt
@@ -100,7 +100,8 @@ ReadsFrom-fault (Some c) now k sector m n rest a offset same h g =
 
 -- ---- faults, after sectors that were read
 
--- the first fault of n sectors, after m that were read, is that of them all and of those after them
+-- the first fault of n sectors, after m that were read, is the first fault of all m + n, and of those with more sectors
+-- after them
 pub RunFault-behind : (k : Keying) (sector m n rest offset : ℕ) (a : List ℕ) (first middle last : DiskState) → Counted (m * units k) first.reads middle.reads → Logs [] first middle → ReadsAs first k sector m (Ok a)
     → RunFault k (sector + m) n offset middle last → RunFault k sector (m + n + rest) offset first last
 RunFault-behind k sector m n rest offset a first middle last asked logs so fault = record {

@@ -1,4 +1,4 @@
--- Logical sectors of which some are read or written at a time.
+-- Logical sectors that are read or written in batches.
 use Rattle.std.proofs.Common.{◌≡◌, ℕ, ◌+◌, ◌-◌, ◌*◌, ◌/◌, ◌<◌, ◌≤◌, List, [], length, take, drop, Option, Ok, Err, sym, ap, subst, ◌∙◌, arith}
 use Rattle.std.proofs.Math.Nat.{div-mul-le_self, mul-div_cancel, mul-le-mul_right}
 use Rattle.std.proofs.lemmas.List.{length-drop, length-take-le}
@@ -15,9 +15,9 @@ use Rattle.provider.specs.Reading.{ReadsAs, ReadsFrom}
 use Rattle.provider.specs.Reads.{RunAnswers}
 use Rattle.provider.proofs.Adjoining.{ReadsFrom-both, RunFails-behind, RunFault-behind}
 
--- ---- where they stand
+-- ---- where a batch stands
 
--- the bytes of so many, after others
+-- how many bytes a batch of so many logical sectors has
 pub batch_length : (size many wide i : ℕ) (bytes : List ℕ) → wide ≡ many * size → (i + many) * size ≤ length bytes → length (take wide (drop (i * size) bytes)) ≡ many * size
 batch_length size many wide i bytes broad room =
     length-take-le wide (drop (i * size) bytes) (omega (arith, length-drop (i * size) bytes, room, broad)) ∙ broad
@@ -25,7 +25,7 @@ batch_length size many wide i bytes broad room =
 pub batch_count : (size many wide i : ℕ) (bytes : List ℕ) → 0 < size → wide ≡ many * size → (i + many) * size ≤ length bytes → length (take wide (drop (i * size) bytes)) / size ≡ many
 batch_count size many wide i bytes some broad room = ap (λ (n : ℕ). n / size) (batch_length size many wide i bytes broad room) ∙ mul-div_cancel many some
 
--- their device sectors have room in the buffer
+-- the device sectors of a batch have room in the buffer
 pub batch_fits : (k now : Keying) (size many most wide i width buffer : ℕ) (bytes : List ℕ) → now ≡ k → 0 < size → wide ≡ many * size → (i + many) * size ≤ length bytes
     → width ≡ 512 * units k → most ≡ buffer / width → many ≤ most → length (take wide (drop (i * size) bytes)) / size * (512 * units now) ≤ buffer
 batch_fits k now size many most wide i width buffer bytes kept some broad room wid is few =
@@ -36,7 +36,7 @@ batch_fits k now size many most wide i width buffer bytes kept some broad room w
 
 -- ---- what is read
 
--- a fault after those that were read
+-- a fault in a batch, after the sectors that were read before
 pub batch_fault : (fault : ReadFault) (first middle last : DiskState) (k now : Keying) (sector done many count : ℕ) (front block bytes : List ℕ) → now ≡ k
     → Counted (done * units k) first.reads middle.reads → Logs [] first middle → done + many ≤ count → ReadsAs first k sector done (Ok front)
     → RunAnswers now (sector + done) many middle last block (Err fault) → RunAnswers k sector count first last bytes (Err fault)
@@ -52,7 +52,7 @@ batch_fault (Integrity offset) first middle last k now sector done many count fr
     let all : done + many + (count - (done + many)) ≡ count = omega arith in
     subst Q all (RunFault-behind k sector done many (count - (done + many)) offset front first middle last asked logs so (subst P same gives))
 
--- bytes after those that were read
+-- the bytes of a batch, after those of the sectors that were read before
 pub batch_reads : (told now_told : Option Content) (k now : Keying) (sector done many size wide : ℕ) (into block : List ℕ) → now ≡ k → now_told ≡ told → length block ≡ many * size
     → done * size ≤ length into → ReadsFrom told k sector done (Ok (take (done * size) into)) → ReadsFrom now_told now (sector + done) many (Ok block)
     → ReadsFrom told k sector (done + many) (Ok (take ((done + many) * size) (put_mid (done * size) wide into block)))

@@ -12,7 +12,7 @@ use Rattle.eli_metadata.specs.Checks.{settings_of, supported, is_readonly, size_
 pub use Rattle.eli_metadata.proofs.Supported.{said}
 use Rattle.eli_metadata.specs.declared.metadata.Metadata.{Metadata}
 
--- a key of a length that a cipher allows has the bits of one that slots are wrapped with
+-- a key length that a cipher allows is also allowed for wrapping slots
 pub bits_allowed : (cipher : Cipher) (bits : ℕ) → IsTrue (allows_length cipher bits) → IsKeyBits bits
 bits_allowed AesCbc bits allowed = grind (arith, common_steps)
 bits_allowed AesXts bits allowed = grind (arith, common_steps)

@@ -5,7 +5,7 @@ use Rattle.std.proofs.lemmas.Slice.{take-put_mid_below}
 use borrow.Rule.Slice.PartMut.{put_mid, post_of}
 use Rattle.block_traits.specs.Parts.{parts}
 
--- some parts, and more
+-- the first n parts of some bytes, and m more
 pub parts-add : (n m : ℕ) (bytes : List ℕ) → parts 512 (n + m) bytes ≡ parts 512 n bytes ++ parts 512 m (drop (512 * n) bytes)
 parts-add zero m bytes =
     let none : 0 + m ≡ m = omega arith in
@@ -18,7 +18,7 @@ parts-add (suc n) m bytes =
     ∙ ap (λ (l : List (List ℕ)). take 512 bytes ∷ l) (parts-add n m (drop 512 bytes)
     ∙ ap (λ (d : List ℕ). parts 512 n (drop 512 bytes) ++ parts 512 m d) (drop-drop (512 * n) 512 bytes ∙ ap (λ (p : ℕ). drop p bytes) more))
 
--- parts depend on the bytes that they have alone
+-- the first n parts depend on the bytes in them alone
 pub parts-front : (n : ℕ) (xs ys : List ℕ) → take (512 * n) xs ≡ take (512 * n) ys → parts 512 n xs ≡ parts 512 n ys
 parts-front zero xs ys e = refl
 parts-front (suc n) xs ys e =
@@ -40,7 +40,7 @@ parts-put-some n m k xs ys len room =
     let all : take (512 * m) (ys ++ post_of (512 * n) k xs) ≡ take (512 * m) ys = take-append-le (512 * m) ys (post_of (512 * n) k xs) (omega (arith, len)) in
     parts-add n m now ∙ (λ i. front i ++ (ap (parts 512 m) behind ∙ parts-front m (ys ++ post_of (512 * n) k xs) ys all) i)
 
--- one that is put there
+-- one part that is put after others
 pub parts-put : (n k : ℕ) (xs ys : List ℕ) → length ys ≡ 512 → 512 * n ≤ length xs → parts 512 (n + 1) (put_mid (512 * n) k xs ys) ≡ parts 512 n xs ++ ys ∷ []
 parts-put n k xs ys len room =
     parts-put-some n 1 k xs ys (omega (arith, len)) room ∙ ap (λ (l : List ℕ). parts 512 n xs ++ l ∷ []) (take_all 512 ys (omega (arith, len)))

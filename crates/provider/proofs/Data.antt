@@ -1,4 +1,4 @@
--- Logical sectors one after the other, as the device sectors that they are sealed to and opened from.
+-- Logical sectors one after another, as the device sectors that they are sealed to and opened from.
 use Rattle.std.proofs.Common.{◌≡◌, ◌≢◌, ℕ, zero, suc, ◌+◌, ◌-◌, ◌*◌, ◌/◌, ◌%◌, ◌^◌, ◌<◌, ◌≤◌, Bool, true, false, cond, is_err, is_ok, MatchResult, List, [], ◌∷◌, ◌++◌, length, get_or, take, drop, Option, Some, None, Result, Ok, Err, refl, sym, ap, subst, ◌∙◌, arith, append_assoc, append-nil, add-one}
 use Rattle.std.proofs.Math.Nat.{div-add-mod, div-lt_iff_lt-mul}
 use Rattle.std.proofs.lemmas.List.{get_or-drop, get_or-take, drop-drop, take-take, drop-take, drop_at, take_at, take_all, length-take-le, length-drop}
@@ -48,7 +48,7 @@ sealed-both k sector (suc n) m bytes =
     ∙ sym (append_assoc first rest (sealed_sectors k (sector + 1 + n) m (drop (n * S) (drop S bytes))))
     ∙ (λ j. (first ++ rest) ++ sealed_sectors k (at j) m ((drop-drop (n * S) S bytes ∙ ap (λ (c : ℕ). drop c bytes) place) j))
 
--- they depend on their own bytes alone
+-- what logical sectors are sealed to depends on their own bytes alone
 sealed-front : (k : Keying) (sector m : ℕ) (bytes : List ℕ) → sealed_sectors k sector m (take (m * k.sectorsize) bytes) ≡ sealed_sectors k sector m bytes
 sealed-front k sector zero bytes = refl
 sealed-front k sector (suc m) bytes =
@@ -60,7 +60,7 @@ sealed-front k sector (suc m) bytes =
     (λ i. seal k sector (first i) ++ sealed_sectors k (sector + 1) m (rest i))
     ∙ ap (λ (l : List (List ℕ)). seal k sector (take S bytes) ++ l) (sealed-front k (sector + 1) m (drop S bytes))
 
--- some are put after those before them
+-- sealed logical sectors, with more of them put after those before
 pub sealed_some : (k now : Keying) (sector n m last size width wide from room : ℕ) (bytes out block : List ℕ) → now ≡ k → size ≡ k.sectorsize → last ≡ n + m → wide ≡ m * size → width ≡ 512 * units k → from ≡ n * width
     → length block ≡ m * width → n * width ≤ length out → parts 512 (m * units now) block ≡ sealed_sectors now (sector + n) m (take wide (drop (n * size) bytes))
     → parts 512 (n * units k) out ≡ sealed_sectors k sector n bytes → parts 512 (last * units k) (put_mid from room out block) ≡ sealed_sectors k sector last bytes
@@ -80,7 +80,7 @@ sealed_some k now sector n m last size width wide from room bytes out block same
     ∙ sym (sealed-both k sector n m bytes)
     ∙ ap (λ (c : ℕ). sealed_sectors k sector c bytes) (sym end)
 
--- one is
+-- sealed logical sectors, with one more put after those before
 pub sealed_more : (k now : Keying) (sector i size width wide room : ℕ) (bytes out block : List ℕ) → now ≡ k → size ≡ k.sectorsize → wide ≡ size → width ≡ 512 * units k
     → length block ≡ width → i * width ≤ length out → device_sectors now block ≡ seal now (sector + i) (take wide (drop (i * size) bytes))
     → parts 512 (i * units k) out ≡ sealed_sectors k sector i bytes → parts 512 ((i + 1) * units k) (put_mid (i * width) room out block) ≡ sealed_sectors k sector (i + 1) bytes
@@ -93,7 +93,7 @@ sealed_more k now sector i size width wide room bytes out block same long cut br
     sealed_some k now sector i 1 (i + 1) size width wide (i * width) room bytes out block same long refl (omega (arith, cut)) broad refl (omega (arith, len)) fit
     (ap (λ (n : ℕ). parts 512 n block) alone ∙ sealed ∙ ap (seal now (sector + i)) (sym whole) ∙ sym (append-nil (seal now (sector + i) (take now.sectorsize piece)))) so
 
--- the device sectors of a write in ascending order are its writes
+-- writing the device sectors of a run in ascending order makes the writes of the run
 pub writes_all : (k : Keying) (sector count : ℕ) (bytes : List ℕ) → writes_from (sector * units k) (sealed_sectors k sector count bytes) ≡ data_writes k sector count bytes
 writes_all k sector zero bytes = refl
 writes_all k sector (suc count) bytes =
@@ -165,7 +165,7 @@ opened_next k now sector count i width piece size room device out plain same lt 
 pub opened_none : (k : Keying) (sector size : ℕ) (device : List (List ℕ)) (out : List ℕ) → opened_data k sector 0 device ≡ Ok (take (0 * size) out)
 opened_none k sector size device out = let none : 0 ≡ 0 * size = omega arith in ap (λ (m : ℕ). Ok (take m out)) none
 
--- all were
+-- all logical sectors were opened into their places
 pub opened_all_of : (k : Keying) (sector i count size : ℕ) (device : List (List ℕ)) (out : List ℕ) → i ≡ count → length out ≤ count * size → opened_data k sector i device ≡ Ok (take (i * size) out) → opened_data k sector count device ≡ Ok out
 opened_all_of k sector i count size device out end all so =
     ap (λ (c : ℕ). opened_data k sector c device) (sym end) ∙ so ∙ ap (λ (c : ℕ). Ok (take (c * size) out)) end ∙ ap Ok (take_all (count * size) out all)
@@ -206,7 +206,7 @@ refused false bytes offset h = refl
 abbrev stood : Keying → ℕ → List (List ℕ) → ℕ → Result (List ℕ) ℕ
 stood k n device m = unit_reading_at k (n + m) (get_or device m [])
 
--- a logical sector is accepted where its units are
+-- a logical sector is accepted if its units are
 sector_accepted : (k : Keying) (sector : ℕ) (device : List (List ℕ)) → k.auth ≢ Off → length device ≡ units k → ((j : ℕ) → j < units k → is_ok (stood k (sector * units k) device j) ≡ true)
     → (bytes : List ℕ) × (reading k sector device ≡ Ok bytes)
 sector_accepted k sector device on count each =
@@ -224,7 +224,7 @@ sector_refused k sector j device on count lt each here =
     let more : i < units k = omega arith in ap (λ (r : Result (List ℕ) ℕ). is_ok r) (unit_reading-alone k sector i device on count more) ∙ each i less)
     (unit_reading-alone k sector j device on count lt ∙ refused _ _ (512 * (sector * units k + j)) here)
 
--- the first unit that is refused, the j-th of the i-th logical sector, is that of them all
+-- the first unit that is refused, the j-th of the i-th logical sector, is the fault of the whole run
 data_refused : (count i : ℕ) (k : Keying) (sector j : ℕ) (device : List (List ℕ)) → k.auth ≢ Off → length device ≡ count * units k → i < count → j < units k
     → ((m : ℕ) → m < i * units k + j → is_ok (stood k (sector * units k) device m) ≡ true) → is_ok (stood k (sector * units k) device (i * units k + j)) ≡ false
     → opened_data k sector count device ≡ Err (512 * (sector * units k + (i * units k + j)))
@@ -307,7 +307,7 @@ standing-more c n (suc m) count =
     let at : n + 1 + m ≡ n + suc m = omega arith in
     ap (standing c n) all ∙ ap (λ (l : List (List ℕ)). present c n ∷ l) (standing-more c (n + 1) m count ∙ ap (λ (x : ℕ). standing c (n + 1) m ++ standing c x count) at)
 
--- what stands there reads as the provider reads it
+-- opening what stands on the disk gives what the provider's sectors read as
 read_all : (k : Keying) (c : Content) (sector count : ℕ) → opened_sectors k sector count (standing c (sector * units k) (count * units k)) ≡ sector_readings k c sector count
 read_all k c sector zero = refl
 read_all k c sector (suc count) =
@@ -326,7 +326,7 @@ pub reads_as : (told : Option Content) (k : Keying) (sector count : ℕ) (device
 reads_as None k sector count device answer stand is = tt
 reads_as (Some c) k sector count device answer stand is = sym (ap joined (read_all k c sector count)) ∙ ap (opened_data k sector count) (sym stand) ∙ is
 
--- some of the device sectors that were looked at
+-- some of the device sectors that a look returned stand on the disk
 pub StandFrom-each : (told : Option Content) (first m count : ℕ) (bytes : List ℕ) → GivesEachFrom told first bytes → m + count ≤ length bytes / 512
     → StandFrom told (first + m) count (parts 512 count (drop (512 * m) bytes))
 StandFrom-each None first m count bytes each fits = tt
@@ -342,7 +342,7 @@ StandFrom-each (Some c) first m (suc count) bytes each fits =
     ap (parts 512 count) behind ∙ rest ∙ ap (λ (n : ℕ). standing c n count) at in
     λ i. here i ∷ all i
 
--- what a look gave, opened
+-- opening what a look returned gives what the logical sectors read as
 pub reads_looked : (told : Option Content) (k : Keying) (sector count : ℕ) (device : List ℕ) (answer : Result (List ℕ) ℕ) → GivesEachFrom told (sector * units k) device → length device ≡ count * (512 * units k)
     → opened_data k sector count (parts 512 (count * units k) device) ≡ answer → ReadsFrom told k sector count answer
 reads_looked told k sector count device answer each long is =
@@ -352,7 +352,7 @@ reads_looked told k sector count device answer each long is =
     let stand = subst P at (StandFrom-each told (sector * units k) 0 (count * units k) device each (omega (arith, long, wide))) in
     reads_as told k sector count (parts 512 (count * units k) device) answer stand is
 
--- where it was opened
+-- what holds of a successful result, if the result is no fault
 pub opened_ok : {A : Type 0} (r : Result A BadUnit) (P : Type 0) (Q : BadUnit → Type 0) → is_err r ≡ false → MatchResult r (λ _. P) Q → P
 opened_ok (Ok done) P Q ok so = so
 opened_ok (Err bad) P Q ok so = absurd (cc ok)
@@ -376,7 +376,7 @@ refused_within k sector count rows m device same long lt small =
 
 -- ---- to the disk
 
--- device sectors that are written in ascending order are the writes of their logical sectors
+-- writing sealed device sectors in ascending order makes the writes of their logical sectors
 pub written : (k : Keying) (sector size rows : ℕ) (from sealed : List ℕ) → rows ≡ units k → size ≡ k.sectorsize → length sealed ≡ length from / size * (512 * units k)
     → parts 512 (length from / k.sectorsize * units k) sealed ≡ sealed_sectors k sector (length from / k.sectorsize) from → write_events (sector * rows) sealed ≡ data_writes k sector (length from / size) from
 written k sector size rows from sealed same sized long so =

@@ -15,7 +15,7 @@ writes_from-append n (x ∷ xs) ys =
     let at : n + 1 + length xs ≡ n + suc (length xs) = omega arith in
     ap (λ (l : List Event). Write n x ∷ l) (writes_from-append (n + 1) xs ys ∙ ap (λ (m : ℕ). writes_from (n + 1) xs ++ writes_from m ys) at)
 
--- ---- sectors that are written some at a time
+-- ---- sectors that are written in batches
 
 -- the writes of the logical sectors from the i-th of so many on
 pub run_writes : Keying → ℕ → ℕ → ℕ → List ℕ → ℕ → List Event
@@ -29,7 +29,7 @@ run_writes-start k sector count size bytes =
     let none : 0 * size ≡ 0 = omega arith in
     λ i. data_writes k (at i) (left i) (drop (none i) bytes)
 
--- the writes of some of them, and those after
+-- the writes of a batch, and those of the logical sectors after it
 pub run_writes-some : (k now : Keying) (sector count size many wide : ℕ) (bytes : List ℕ) (i : ℕ) → now ≡ k → size ≡ k.sectorsize → 0 < size → wide ≡ many * size → i + many ≤ count
     → (i + many) * size ≤ length bytes
     → run_writes k sector count size bytes i ≡ data_writes now (sector + i) (length (take wide (drop (i * size) bytes)) / size) (take wide (drop (i * size) bytes)) ++ run_writes k sector count size bytes (i + many)

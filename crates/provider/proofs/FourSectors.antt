@@ -25,7 +25,7 @@ sealed_before k sector m bytes plain out rest is long sealed so =
     ∙ (λ i. (first ∙ sealed ∙ ap (seal k sector) is) i ++ parts 512 (m * u) (behind i))
     ∙ ap (λ (l : List (List ℕ)). seal k sector (take k.sectorsize bytes) ++ l) so
 
--- those of four
+-- the device sectors of four logical sectors
 pub sealed_four : (k : Keying) (sector : ℕ) (bytes a b c d first second third fourth : List ℕ)
     → a ≡ take k.sectorsize bytes → b ≡ take k.sectorsize (drop k.sectorsize bytes) → c ≡ take k.sectorsize (drop k.sectorsize (drop k.sectorsize bytes))
     → d ≡ take k.sectorsize (drop k.sectorsize (drop k.sectorsize (drop k.sectorsize bytes)))
@@ -54,7 +54,7 @@ pub record AreApart (k : Keying) (sector j offset step : ℕ) : Type 0 where
 pub are_apart : (k : Keying) (sector j offset step : ℕ) → offset ≡ 512 * (sector * units k + j) → step ≡ 512 * units k → AreApart k sector j offset step
 are_apart k sector j offset step at wide = record { second = omega (arith, at, wide); third = omega (arith, at, wide); fourth = omega (arith, at, wide) }
 
--- ---- one of four
+-- ---- what holds of each of four
 
 pub each_of_four : (P : ℕ → Type 0) → P 0 → P 1 → P 2 → P 3 → (i : ℕ) → i < 4 → P i
 each_of_four P a b c d zero lt = a

@@ -16,7 +16,7 @@ use Rattle.sealing.proofs.Sectors.{length-seal}
 use Rattle.provider.specs.Verdicts.{HasWholeFour}
 use Rattle.provider.proofs.Cuts.{parts-put-some}
 
--- there are as many units as whole ones, or more
+-- a logical sector has at least as many units as whole units
 pub wholes_within : (auth : Auth) (size m : ℕ) → unit_bytes_of auth * m ≤ size → m ≤ units_per_sector auth size
 wholes_within Off size m fits = omega arith
 wholes_within Sha256 size m fits = omega arith
@@ -29,7 +29,7 @@ four_fit u fours i size more fits =
     let some : i + 1 ≤ fours = omega arith in
     omega (arith, mul-le-mul_right (4 * u) some, fits)
 
--- ---- what they are sealed to
+-- ---- what whole units are sealed to
 
 four_of : (l : List (List ℕ)) (n : ℕ) → n + 4 ≤ length l → take 4 (drop n l) ≡ get_or l n [] ∷ get_or l (n + 1) [] ∷ get_or l (n + 2) [] ∷ get_or l (n + 3) [] ∷ []
 four_of l n fits =
@@ -41,7 +41,7 @@ four_of l n fits =
     ∙ (λ i. get_or l n [] ∷ get_or l (n + 1) [] ∷ take 2 ((ap (λ (m : ℕ). drop m l) two ∙ drop-cons l (n + 2) [] (omega arith)) i))
     ∙ (λ i. get_or l n [] ∷ get_or l (n + 1) [] ∷ get_or l (n + 2) [] ∷ take 1 ((ap (λ (m : ℕ). drop m l) three ∙ drop-cons l (n + 3) [] (omega arith)) i))
 
--- a whole unit
+-- what a whole unit is sealed to
 whole_sealed : (k now : Keying) (sector j offset at width : ℕ) (bytes piece : List ℕ) → k.auth ≢ Off → now ≡ k → j < units k → offset ≡ 512 * (sector * units k + j) → at ≡ unit_bytes_of k.auth * j
     → width ≡ unit_bytes_of k.auth → piece ≡ take width (drop at bytes) → get_or (seal k sector bytes) j [] ≡ sealed_tagged now offset piece
 whole_sealed k now sector j offset at width bytes piece on same lt place starts wide is =
@@ -50,7 +50,7 @@ whole_sealed k now sector j offset at width bytes piece on same lt place starts 
     ∙ (λ i. sealed_tagged (sym same i) (there i) (take (sym wide i) (drop (sym starts i) bytes)))
     ∙ ap (sealed_tagged now offset) (sym is)
 
--- a group that is put after those before it
+-- sealed units, with a group of four put after those before
 pub group_put : (k now : Keying) (sector i offset at width room : ℕ) (bytes out sealed a b c d : List ℕ) → k.auth ≢ Off → now ≡ k → width ≡ unit_bytes_of k.auth → unit_bytes_of k.auth * (4 * i + 4) ≤ k.sectorsize
     → offset ≡ 512 * (sector * units k + 4 * i) → at ≡ unit_bytes_of k.auth * (4 * i)
     → a ≡ take width (drop at bytes) → b ≡ take width (drop (at + width) bytes) → c ≡ take width (drop (at + 2 * width) bytes) → d ≡ take width (drop (at + 3 * width) bytes)
@@ -75,9 +75,9 @@ group_put k now sector i offset at width room bytes out sealed a b c d on same w
     ∙ sym (take-add n 4 every)
     ∙ ap (λ (m : ℕ). take m every) (sym more)
 
--- ---- their sizes
+-- ---- the sizes of whole units
 
--- four whole units of one logical sector have the bytes of one each
+-- each of four whole units of one logical sector has the size of a whole unit
 pub whole_size : (k : Keying) (n m : ℕ) → HasWholeFour k n → m < 4 → unit_size_at k (n + m) ≡ unit_bytes_of k.auth
 whole_size k n m whole lt =
     let u : ℕ = unit_bytes_of k.auth in

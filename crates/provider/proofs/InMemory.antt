@@ -21,7 +21,7 @@ use Rattle.provider.proofs.Sealed.{number_at}
 use Rattle.range_keys.specs.Unit.{IsUnit}
 use Rattle.provider.proofs.UnitLists.{joined-next}
 
--- ---- where it stands
+-- ---- where a logical sector stands
 
 -- a logical sector of the provider has its device sectors before the last one
 pub sector_inside : (k : Keying) (sector size : ℕ) → sector < media_sectors k.auth k.sectorsize (512 * size) → sector * units k + units k < size

@@ -18,11 +18,11 @@ none_attached t by (attach.TooSmall size) is h = (sym is.media ∙ h.0, h.1 ∙ 
 none_attached t by attach.WrongKey is h = (has_sector t is h.0, h.1, h.2)
 none_attached t by attach.NoMemory is h = absurd h
 
--- one opened, and there was no memory
+-- a slot opened, and there was no memory
 pub without_memory : (t : Target) (by : Means) (slot : ℕ) (master : List ℕ) → IsChecked t.meta t.params t.disk.size → SlotOpens t.meta (params_media t.params) by.key by.named slot master → AttachFails t by attach.NoMemory
 without_memory t by slot master is h = (has_sector t is h.room, subst IsSome (sym h.opened) refl)
 
--- one opened, and its provider is attached
+-- a slot opened, and the provider is attached with its key
 pub made_of : {D : Type 0} (t : Target) (by : Means) (given : D) (slot : ℕ) (master : MasterKey) → IsChecked t.meta t.params t.disk.size → 1 ≤ target_media t → opened t.meta by.key by.named ≡ Some (master, slot)
     → OpensAsNamed t.meta by.key by.named slot master.bytes → IsAttached t by given (attached_with t.params master slot by.readonly given)
 made_of t by given slot master is room found opens = record {

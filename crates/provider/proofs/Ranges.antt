@@ -13,17 +13,17 @@ units-off k size off same some whole =
     let counted : size / 512 ≡ (k.sectorsize - 1) / 512 + 1 = omega arith in
     counted ∙ sym (ap (λ (a : Auth). units_per_sector a k.sectorsize) off)
 
--- the bytes of one of some logical sectors have their place among the bytes of them all
+-- the bytes of logical sector i of a run lie within the bytes of the run
 pub bytes_inside : (len size i : ℕ) → i < len / size → i * size + size ≤ len
 bytes_inside len size i more =
     let some : i + 1 ≤ len / size = omega arith in
     omega (arith, mul-le-mul_right size some, div-mul-le_self len size)
 
--- numbers of sectors are below the size where each takes room
+-- n sectors that take at least one device sector each are no more than the device sectors that hold them
 pub number_small : (n units size : ℕ) → 1 ≤ units → n * units ≤ size → n ≤ size
 number_small n units size some fits = omega (arith, mul-le-mul_left n some, mul-one n)
 
--- an offset in bytes is small
+-- the offset of a logical sector in bytes fits 64 bits
 pub offset_small : (sector size units disk : ℕ) → size ≡ 512 * units → sector * units + units ≤ disk → disk < 2 ^ 44 → sector * size < 2 ^ 64
 offset_small sector size units disk same inside small =
     let at : sector * size ≡ sector * (512 * units) = ap (λ (s : ℕ). sector * s) same in
@@ -39,7 +39,7 @@ request_inside k sector count size fits =
     let whole : media * bytes ≤ all = div-mul-le_self all bytes in
     omega (arith, within, whole)
 
--- one of some logical sectors has its device sectors among those of all
+-- the device sectors of logical sector i of a run have small numbers if those of the run have
 pub sector_small : (k now : Keying) (sector i count : ℕ) → now ≡ k → i < count → (sector + count) * units k < 2 ^ 44 → (sector + i) * units now + units now < 2 ^ 44
 sector_small k now sector i count same more small =
     let next : sector + i + 1 ≤ sector + count = omega arith in

@@ -32,7 +32,7 @@ sector_readings-suc k c n (suc count) =
     ap (λ (l : List (Result (List ℕ) ℕ)). sector_reading k c n ∷ l) (sector_readings-suc k c (n + 1) count
     ∙ ap (λ (m : ℕ). sector_readings k c (n + 1) count ++ sector_reading k c m ∷ []) at)
 
--- the bytes after the first ones
+-- what follows the first bytes, if putting these in front of it gave bytes
 pub before-ok : (front : List ℕ) (r : Result (List ℕ) ℕ) (all : List ℕ) → before front r ≡ Ok all → (rest : List ℕ) × (r ≡ Ok rest) × (front ++ rest ≡ all)
 before-ok front (Ok rest) all h = (rest, refl, cc)
 before-ok front (Err offset) all h = absurd cc

@@ -9,7 +9,7 @@ use Rattle.sealing.specs.Sectors.{device_sectors, reading, units}
 use Rattle.provider.specs.Reading.{standing, StandFrom, sector_reading}
 use Rattle.provider.proofs.Ranges.{units-off}
 
--- a sector at a multiple of its size is the one of that number
+-- the logical sector at an offset of `sector` times its size has the number `sector`
 pub number_at : (sector size : ℕ) (k : Keying) → size ≡ k.sectorsize → 0 < size → sector * size / k.sectorsize ≡ sector
 number_at sector size k same some = ap (λ (s : ℕ). sector * size / s) (sym same) ∙ mul-div_cancel sector some
 

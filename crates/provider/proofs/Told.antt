@@ -1,4 +1,4 @@
--- Numbers that tell what they stand for.
+-- Numbers that determine the values they were made from.
 use Rattle.std.proofs.Common.{◌≡◌, ℕ, Bool, true, false, refl, arith}
 use Rattle.eli_base.specs.Keying.{Keying}
 use Rattle.eli_base.specs.Algorithms.{auth_number, cipher_number}

@@ -32,7 +32,7 @@ use Rattle.provider.proofs.Readings.{before-ok, joined-push}
 pub length-between : (start end : ℕ) (bytes : List ℕ) → start ≤ end → end ≤ length bytes → length (take (end - start) (drop start bytes)) ≡ end - start
 length-between start end bytes order within = length-take-le (end - start) (drop start bytes) (omega (arith, length-drop start bytes))
 
--- the unit at which a loop over those of a logical sector stands
+-- the unit that a loop over the units of a logical sector has reached
 pub record Stands (k : Keying) (sector j offset start end : ℕ) : Type 0 where
   pub below : j < units k
   pub place : offset ≡ 512 * (sector * units k + j)
@@ -53,7 +53,7 @@ stands k now sector j bound offset start end same count lt at unit =
       front = omega (arith, starts, order, within);
     }
 
--- it may be asked for
+-- a number that a loop over the units reaches is that of a unit
 pub unit_there : (k now : Keying) (j bound : ℕ) → now ≡ k → bound ≡ units k → j < bound → j < units now
 unit_there k now j bound same count lt = subst (λ (h : Keying). j < units h) (sym same) (subst (λ (n : ℕ). j < n) count lt)
 
@@ -75,7 +75,7 @@ length-units_read : (k : Keying) (c : Content) (sector : ℕ) → k.auth ≢ Off
 length-units_read k c sector on =
     length-unit_readings-tagged k sector (standing c (sector * units k) (units k)) on ∙ length-standing c (sector * units k) (units k)
 
--- each is that of a unit
+-- reading j of the list of units is that of unit j
 unit_now : (k : Keying) (c : Content) (sector j n size : ℕ) → k.auth ≢ Off → j < units k → n ≡ sector * units k + j
     → size ≡ min (unit_bytes_of k.auth) (k.sectorsize - unit_bytes_of k.auth * j) → get_or (units_read k c sector) j (Ok []) ≡ opened_tagged k (512 * n) size (present c n)
 unit_now k c sector j n size on lt at bytes =
@@ -88,7 +88,7 @@ pub joined-more : (readings : List (Result (List ℕ) ℕ)) (j : ℕ) (front pie
 joined-more readings j front piece lt so here =
     ap joined (take-suc readings j (Ok []) lt) ∙ ap (λ (r : Result (List ℕ) ℕ). joined (take j readings ++ r ∷ [])) here ∙ joined-push (take j readings) front piece so
 
--- the first fault is that of all
+-- the first fault among readings is the fault of all of them joined
 joined-faulty : (readings more : List (Result (List ℕ) ℕ)) (front : List ℕ) (offset : ℕ) → joined readings ≡ Ok front → joined (readings ++ Err offset ∷ more) ≡ Err offset
 joined-faulty [] more front offset so = refl
 joined-faulty (Ok bytes ∷ readings) more front offset so =
@@ -112,7 +112,7 @@ joined-next readings j start end block piece lt so here long room =
     ∙ joined-more readings j (take start block) piece lt so here
     ∙ ap Ok (sym (take-put_mid start (end - start) block piece end long room))
 
--- ---- what reading a unit adds to what was read before, where the content is reported
+-- ---- what reading a unit adds to what was read before, if the content is reported
 
 pub read_next : (told now_told : Option Content) (k now : Keying) (sector j n size start end : ℕ) (block piece : List ℕ) → k.auth ≢ Off → now ≡ k → now_told ≡ told → j < units k
     → n ≡ sector * units k + j → size ≡ end - start → IsUnit k.auth k.sectorsize j start end → length block ≡ k.sectorsize → length piece ≡ end - start

@@ -35,7 +35,7 @@ judged_apart k n rows j i offset start end place room device count begins lt uni
     judged_at k n (i * rows + j) offset (end - start) device (take room (drop place device)) (omega (arith, at, here, whole, more)) (unit_sized k (n / rows + i) j (n + (i * rows + j)) start end lt unit number)
     (λ o. take (wide o) (drop (where_is o) device))
 
--- one row more of them
+-- a table of verdicts, with one more row filled in
 column_of : (J j : ℕ) (l : List (List Bool)) (x : List Bool) (P : ℕ → ℕ → Bool) → J < length l → ((j i : ℕ) → j < J → i < 4 → get_or (get_or l j []) i false ≡ P j i)
     → ((i : ℕ) → i < 4 → get_or x i false ≡ P J i) → (j ≡ J) ⊎ (j < J) → (i : ℕ) → i < 4 → get_or (get_or (set l J x) j []) i false ≡ P j i
 column_of J j l x P room each new (inl same) i less =
@@ -70,7 +70,7 @@ accepted_on k n done m device judged before judges fits each i lt = accepted_eit
 
 -- ---- groups
 
--- one unit
+-- a group of one unit
 pub judges_one : (k : Keying) (n : ℕ) (device : List ℕ) (judged : Judged) → judged.count ≡ 1 → 512 ≤ length device → verdict judged 0 ≡ accepted_among k n device 0 → Judges k n device judged
 judges_one k n device judged one room so = record {
   some = omega (arith, one);
@@ -79,7 +79,7 @@ judges_one k n device judged one room so = record {
       let none : 0 ≡ m = omega (arith, one, lt) in subst (λ (x : ℕ). verdict judged x ≡ accepted_among k n device x) none so;
 }
 
--- four of them
+-- a group of four units
 pub judges_four : (k : Keying) (n : ℕ) (device : List ℕ) (judged : Judged) → judged.count ≡ 4 → 2048 ≤ length device → verdict judged 0 ≡ accepted_among k n device 0 → verdict judged 1 ≡ accepted_among k n device 1
     → verdict judged 2 ≡ accepted_among k n device 2 → verdict judged 3 ≡ accepted_among k n device 3 → Judges k n device judged
 judges_four k n device judged four room a b c d = record {

@@ -123,8 +123,8 @@ fn open_accepted_sectors(ring: &mut KeyRing, sector: u64, device: &[u8], out: &m
 /// Opens logical sectors from their device sectors, which stand one after the other, the first sector of number
 /// `sector`. All tags are checked before anything is deciphered.
 ///
-/// It is refused exactly where the tag of a unit isn't that of its ciphertext, with the byte offset of the first one,
-/// and `out` is then as it was.
+/// It is refused exactly if the tag of a unit isn't that of its ciphertext, with the byte offset of the first such
+/// unit, and `out` is then as it was.
 pub fn open_sectors(
     ring: &mut KeyRing,
     sector: u64,

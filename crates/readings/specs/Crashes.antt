@@ -21,7 +21,7 @@ image_unit k sector image j = get_or (image_units k sector image) j (Ok [])
 
 -- ---- a unit that is a fault
 
--- what stands in device sector n of an image: a writing of its cell, or strange bytes where such may be
+-- what stands in device sector n of an image: a writing of its cell, or strange bytes if the sector may have such
 abbrev pub StandsThere : (ℕ → List Writing) → (ℕ → Type 0) → List (List ℕ) → ℕ → Writing → Type 0
 StandsThere cells may_be_strange image n w =
     IsOfCell (cells n) (get_or image n []) w ⊎ (IsStrange (cells n) (get_or image n []) w × may_be_strange n)
@@ -65,8 +65,8 @@ pub record IsFlushed (steps : List Step) (n : ℕ) (w : Writing) : Type 0 where
 
 -- What is promised of a logical sector under a keying, if power fails after the first t of these steps, on a disk that
 -- had this content before. In an image in which each device sector is whole, it reads as the writings that the image
--- chose from the cells; in a torn one, as writings of the cells, or as strange bytes where a device sector has more
--- than one kept value; in an altered one, as those or any bytes. What was flushed as a unit of this logical sector
+-- chose from the cells; in a torn one, as writings of the cells, or as strange bytes if a device sector has more than
+-- one kept value; in an altered one, as those or any bytes. What was flushed as a unit of this logical sector
 -- reads so in each image that isn't altered.
 pub record Endures (c : Content) (steps : List Step) (t : ℕ) (k : Keying) (sector : ℕ) : Type 0 where
   pub whole : (choice : ℕ → ℕ) (image : List (List ℕ)) → IsImage (moment t steps c) choice image →

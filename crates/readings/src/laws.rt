@@ -79,8 +79,8 @@ pub fn image_reads_as_chosen()
         unit_readings k sector (sectors_in k sector image) ≡ read k sector (chosen k sector (cell c (take t steps)) choice) }
 {}
 
-/// In a torn image each logical sector reads as writings of the cells, or of strange bytes where a device sector has
-/// more than one kept value.
+/// In a torn image each logical sector reads as writings of the cells, or of strange bytes if a device sector has more
+/// than one kept value.
 pub fn torn_image_reads_from_cells()
     ensures { (c : Content) (steps : List Step) (t : ℕ) (image : List (List ℕ)) (k : Keying) (sector : ℕ) →
         IsContentOf (length c.base) c → AreSteps steps → IsKeying k → sector < content_media k c →

@@ -6,20 +6,20 @@ use Rattle.std.proofs.lemmas.List.{get_or-set_same, drop-set-lt, drop_all}
 use Rattle.std.proofs.lemmas.Bool.Decides.{nat_tests}
 use Rattle.std.specs.Fmt.{digits, digits_onto, digit_glyph}
 
--- no digit was written, and all are left
+-- before the first digit is written, all digits are left
 pub digits-start : (n : ℕ) (bytes : List ℕ) → length bytes ≡ 8 → (k : ℕ) × (8 ≤ k) × (digits 16 false n ≡ digits_onto k 16 false n (drop 8 bytes))
 unfolding digits
 digits-start n bytes long = (64, lit≤ tt, rw (drop_all 8 bytes (omega arith)) refl)
 
--- the last digit of what is left
+-- the last digit of what is left, if it isn't the first
 digits_onto-next : (k n : ℕ) (after : List ℕ) → n / 16 ≢ 0 → digits_onto (suc k) 16 false n after ≡ digits_onto k 16 false (n / 16) (digit_glyph false (n % 16) ∷ after)
 digits_onto-next k n after more = grind (arith, nat_tests)
 
--- the first digit
+-- the first digit, after which nothing is left
 digits_onto-last : (k n : ℕ) (after : List ℕ) → n / 16 ≡ 0 → digits_onto (suc k) 16 false n after ≡ digit_glyph false (n % 16) ∷ after
 digits_onto-last k n after none = rw none refl
 
--- a byte put in front of the last ones
+-- a byte that is put in front of the last bytes
 drop-set_front : (bytes : List ℕ) (start byte : ℕ) → 1 ≤ start → start ≤ length bytes → drop (start - 1) (set bytes (start - 1) byte) ≡ byte ∷ drop start bytes
 drop-set_front bytes zero byte some inside = absurd (omega arith)
 drop-set_front bytes (suc start) byte some inside =
@@ -30,7 +30,7 @@ pub small-next : (start n : ℕ) → 1 ≤ start → n < 16 ^ start → n / 16 <
 small-next zero n some small = absurd (omega arith)
 small-next (suc start) n some small = rw sub-one (let bound : n < 16 ^ start * 16 = rw (pow-suc 16 start) at small in omega arith)
 
--- where more is left, there is room for it
+-- if more digits are left, there is room for them
 pub room-next : (start n : ℕ) → n / 16 ≢ 0 → n / 16 < 16 ^ (start - 1) → 1 ≤ start - 1
 room-next zero n more small = absurd (omega arith)
 room-next (suc zero) n more small = absurd (omega arith)

@@ -19,7 +19,7 @@ append_known-nothing : (known : Option (List ℕ)) → append_known known [] ≡
 append_known-nothing None = refl
 append_known-nothing (Some bytes) = ap Some (append-nil bytes)
 
--- nothing is printed of no text
+-- an empty text was printed if nothing was done
 pub TookAll-nothing : (s : SinkState) → TookAll [] s s
 TookAll-nothing s = record { took = sym (append_known-nothing s.taken); later = omega arith; refused = refl; idle = refl }
 
@@ -58,7 +58,7 @@ TookPart-more first second {old} {new} a = record {
   idle = a.idle;
 }
 
--- a failed print
+-- a result that is an error, and a part of the text that was taken, are a failed print
 pub Prints-failed : (text : List ℕ) (old new : SinkState) (result : Result (Unit {0}) WriteEnd) → IsErr result → TookPart text old new → Prints text old result new
 Prints-failed text old new (Ok done) failed part = absurd (false≢true failed)
 Prints-failed text old new (Err end) failed part = part
@@ -69,7 +69,7 @@ concat-split text pieces n =
     ap (λ (ps : List _). concat (map text ps)) (sym (take-append-drop n pieces)) ∙ ap concat (map-append text (take n pieces) (drop n pieces))
     ∙ concat-append (map text (take n pieces)) (map text (drop n pieces))
 
--- one more piece
+-- the text of one more piece
 pub concat-more : {X : Type 0} (text : X → List ℕ) (pieces : List X) (n : ℕ) (d : X) → n < length pieces → concat (map text (take (n + 1) pieces)) ≡ concat (map text (take n pieces)) ++ text (get_or pieces n d)
 concat-more text pieces n d inside =
     rw (take_more pieces n d inside, map-append, concat-append, append-nil) refl
@@ -95,21 +95,21 @@ PutsPart-then first second {held} {middle_held} a b =
 pub PutsPart-more : (first second : List ℕ) {held : List ℕ} {old new : SinkState} → PutsPart first held old new → PutsPart (first ++ second) held old new
 PutsPart-more first second {held} a = record { part = rw (sym (append_assoc held first second)) (TookPart-more (held ++ first) second a.part) }
 
--- a text, and then another
+-- a text was put, and then another, with any result
 pub Puts-then : (first second held middle_held left : List ℕ) (old middle new : SinkState) (result : Result (Unit {0}) WriteEnd) → PutsAll first held old middle_held middle → Puts second middle_held middle result left new → Puts (first ++ second) held old result left new
 Puts-then first second held middle_held left old middle new (Ok done) a b = PutsAll-then first second a b
 Puts-then first second held middle_held left old middle new (Err failed) a b = PutsPart-then first second a b
 
--- a text that failed
+-- a result that is an error, and a part of the text that was put, are a failed put
 pub Puts-failed : (text held left : List ℕ) (old new : SinkState) (result : Result (Unit {0}) WriteEnd) → IsErr result → PutsPart text held old new → Puts text held old result left new
 Puts-failed text held left old new (Ok done) failed part = absurd (false≢true failed)
 Puts-failed text held left old new (Err end) failed part = part
 
--- no text
+-- an empty text was put if nothing was done
 pub PutsAll-nothing : (held : List ℕ) (s : SinkState) → PutsAll [] held s held s
 PutsAll-nothing held s = record { given = []; split = append-nil held; took = TookAll-nothing s }
 
--- nothing is to be put
+-- putting an empty text succeeds
 pub puts_nothing : (held : List ℕ) (s : SinkState) → Puts [] held s (Ok tt) held s
 puts_nothing held s = PutsAll-nothing held s
 
@@ -118,7 +118,7 @@ pub Puts-given : (text held left : List ℕ) (old middle new : SinkState) (resul
 Puts-given text held left old middle new (Ok done) a b none = record { given = held ++ text; split = rw none (sym (append-nil (held ++ text))); took = TookAll-then held text a b }
 Puts-given text held left old middle new (Err failed) a b none = record { part = TookPart-then held text a b }
 
--- what an empty page began with, and its last bytes
+-- a text was put on an empty page, and then what the page held was printed, with any result
 pub Prints-given : (text left : List ℕ) (old middle new : SinkState) (result : Result (Unit {0}) WriteEnd) → PutsAll text [] old left middle → Prints left middle result new → Prints text old result new
 Prints-given text left old middle new (Ok done) a b = rw a.split (TookAll-then a.given left a.took b)
 Prints-given text left old middle new (Err failed) a b = rw a.split (TookPart-then a.given left a.took b)

@@ -94,7 +94,7 @@ field text = 32 ∷ text
 unfoldable pub decimal_fields : List ℕ → List ℕ
 decimal_fields numbers = concat (map (λ number. field (decimal number)) numbers)
 
--- the fields of a refusal in order: the numbers that it carries, and of `Usage` the reason after its number
+-- the fields of a refusal in order: the numbers that it carries, and for `Usage` the reason after its number
 abbrev pub refusal_fields : Refusal → List ℕ
 refusal_fields (refusals.Usage word reason) = decimal_fields (word ∷ []) ++ field (reason_name reason)
 refusal_fields refusals.UnknownProvider = []
@@ -192,7 +192,7 @@ dump_text m = format_lines m ++ size_lines m ++ key_lines m ++ codes "ok\n"
 abbrev pub bytes_text : List ℕ → List ℕ
 bytes_text bytes = codes "ok " ++ encode_lower bytes ++ (10 ∷ [])
 
--- the bytes of a logical sector, and how many of them there are
+-- the bytes of a logical sector, and how many logical sectors there are
 abbrev pub sizes_of : Row → List ℕ
 sizes_of row = decimal_fields (row.sectorsize ∷ row.sectors ∷ [])
 
@@ -212,7 +212,7 @@ row_lines rows = concat (map row_text rows)
 abbrev pub list_text : List Row → List ℕ
 list_text rows = row_lines rows ++ codes "ok\n"
 
--- so many numbers at the front of some bytes, each as eight bytes, the least significant first
+-- so many numbers at the front of some bytes, each of eight bytes, the least significant byte first
 unfoldable pub numbers_in : ℕ → List ℕ → List ℕ
 numbers_in zero bytes = []
 numbers_in (suc count) bytes = from_le_bytes w64 (take 8 bytes) ∷ numbers_in count (drop 8 bytes)
@@ -228,17 +228,17 @@ bad_line offset = numbers_line (codes "bad") (offset ∷ [])
 unfoldable pub bad_lines : List ℕ → List ℕ
 bad_lines offsets = concat (map bad_line offsets)
 
--- a line for each unit that fails, and `ok` with the place where the next sweep begins and how many there are
+-- a line for each unit that fails, and `ok` with the place where the next sweep begins and how many units fail
 abbrev pub verified_text : List ℕ → ℕ → ℕ → List ℕ
 verified_text offsets next bad = bad_lines offsets ++ numbers_line (codes "ok") (next ∷ bad ∷ [])
 
--- the payload of a reply, or the numbers that a sweep lists in it, are at most so long
+-- the bytes of a reply, or the numbers that a sweep lists, fit into a payload of so many bytes
 abbrev pub FitsPayload : ℕ → Reply → Type 0
 FitsPayload len (Payload count) = count ≤ len
 FitsPayload len (Verified bad next) = 8 * bad ≤ len
 FitsPayload len _ = Unit {0}
 
--- the text of a reply, whose bytes are the first ones of the payload
+-- the text of a reply, whose bytes are the first bytes of the payload
 abbrev pub reply_text : Reply → List ℕ → List ℕ
 reply_text Done payload = codes "ok\n"
 reply_text (Payload count) payload = bytes_text (take count payload)

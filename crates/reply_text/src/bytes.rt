@@ -8,7 +8,7 @@ use crate::WriteEnd;
 use crate::page::{Page, put};
 use block_traits::Sink;
 
-// How many bytes are printed in one piece of digits.
+// How many bytes make one piece of digits.
 const PIECE: usize = 512;
 
 /// Puts `ok `, bytes in lower-case hexadecimal, and a newline.

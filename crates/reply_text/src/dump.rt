@@ -76,7 +76,7 @@ fn write_iterations<K: Sink, const N: usize>(
     write_number_line(b"iterations: ", meta.iterations, page, output)
 }
 
-// Puts a line with bytes in hexadecimal, whose digits are put into the buffer first.
+// Puts a line with bytes in hexadecimal. The buffer takes their digits first.
 fn write_bytes_line<K: Sink, const N: usize>(
     label: &[u8],
     bytes: &[u8],

@@ -6,7 +6,7 @@ use crate::{WriteEnd, write_text};
 use arrayvec::ArrayVec;
 use block_traits::Sink;
 
-/// Texts that are still to be given to the sink, at most so many bytes of them.
+/// Texts that are still to be given to the sink, at most `N` bytes.
 pub(crate) type Page<const N: usize> = ArrayVec<u8, N>;
 
 /// Adds a text to those on the page. If the page has no room for it, the sink is given the page

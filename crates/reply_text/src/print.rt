@@ -12,7 +12,7 @@ use itoa::{Buffer, Integer};
 #[derive(Clone, Copy, Debug, PartialEq, Eq)]
 pub struct WriteEnd;
 
-/// Gives all of a text to a sink. `WriteEnd` comes only where the sink's count of faults rose, and the
+/// Gives all of a text to a sink. `WriteEnd` comes only if the sink's count of faults rose, and the
 /// sink then took the first bytes of the text and no others.
 pub fn write_text<K: Sink>(text: &[u8], output: &mut K) -> Result<(), WriteEnd>
     ensures { Prints text.now (K.state output.old) result (K.state output.new) }

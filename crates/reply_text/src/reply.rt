@@ -1,4 +1,4 @@
-//! What is answered to a command, and how it is printed.
+//! The reply to a command, and how it is printed.
 ghost use Rattle.std.specs.Prelude.{◌≡◌, ◌++◌, ◌∷◌, [], length};
 ghost use Rattle.reply_text.specs.Output.{Prints, Puts};
 ghost use Rattle.reply_text.specs.Text.{FitsPayload, reply_text, list_text, refusal_text, refusal_fields, fields_text, decimal_fields, numbers_line, reason_name, refusal_head, field};
@@ -17,22 +17,22 @@ use eli_base::{Reason, Refusal};
 use eli_metadata::Metadata;
 use itoa::Buffer;
 
-// The bytes of the page of a reply, which is cleared for each: a short reply has a short one.
+// How many bytes the page of a reply has. Each reply clears its page, so a short reply gets a short page.
 const LONG_PAGE: usize = 16384;
 
 const SHORT_PAGE: usize = 1280;
 
-// The bytes of a payload whose reply has room on the short page.
+// The most bytes of a payload whose reply has room on the short page.
 const SHORT_PAYLOAD: u32 = 512;
 
-/// The answer to one command.
+/// The reply to one command.
 #[derive(Drop)]
 pub enum Reply {
-    /// It was done.
+    /// The command was done.
     Done,
-    /// It was done, and its answer is bytes: the first ones of the payload, so many.
+    /// The command was done, and the reply is the first bytes of the payload.
     Payload {
-        /// How many bytes.
+        /// How many bytes the reply is.
         length: u32,
     },
     /// A digest of bytes.
@@ -43,7 +43,7 @@ pub enum Reply {
     Dump(Metadata),
     /// A request was opened.
     Tag {
-        /// Its tag.
+        /// The tag of the request.
         tag: u8,
     },
     /// A step of a request was made.
@@ -51,19 +51,19 @@ pub enum Reply {
         /// How many units are left.
         left: u64,
     },
-    /// A sweep was made, and what it lists are the first numbers of the payload.
+    /// A sweep was made, and the offsets that it lists are the first numbers of the payload.
     Verified {
         /// How many units fail.
         bad: u32,
         /// The logical sector where the next sweep begins.
         next: u64,
     },
-    /// It was refused.
+    /// The command was refused.
     Refused(Refusal),
 }
 
-/// Prints a reply. `WriteEnd` comes only where the sink's count of faults rose, and the sink then took
-/// the first bytes of the reply's text and no others. Takes no memory.
+/// Prints a reply. `WriteEnd` comes only if the sink's count of faults rose, and the sink then took
+/// the first bytes of the reply's text and no others. Allocates no memory.
 pub fn write_reply<K: Sink>(reply: &Reply, payload: &[u8], output: &mut K) -> Result<(), WriteEnd>
     requires { FitsPayload (length payload.now) reply.now }
     ensures { Prints (reply_text reply.now payload.now) (K.state output.old) result (K.state output.new) }
@@ -84,7 +84,7 @@ pub fn write_reply<K: Sink>(reply: &Reply, payload: &[u8], output: &mut K) -> Re
     }
 }
 
-// Prints a reply by a page on which nothing stands.
+// Prints a reply, with a page that is empty at first.
 fn write_by<K: Sink, const N: usize>(
     reply: &Reply,
     payload: &[u8],
@@ -99,7 +99,7 @@ fn write_by<K: Sink, const N: usize>(
     give_page(page, output)
 }
 
-// The text of a reply.
+// Puts the text of a reply.
 fn write_whole<K: Sink, const N: usize>(
     reply: &Reply,
     payload: &[u8],
@@ -122,7 +122,7 @@ fn write_whole<K: Sink, const N: usize>(
     }
 }
 
-// The drawers and `ok`.
+// Puts the drawers and `ok`.
 fn write_list<K: Sink, const N: usize>(
     rows: &[Row],
     page: &mut Page<N>,
@@ -146,7 +146,7 @@ fn write_refusal<K: Sink, const N: usize>(
     put(b"\n", page, output)
 }
 
-// The number and the name.
+// Puts the number and the name of a refusal.
 fn write_head<K: Sink, const N: usize>(
     refusal: &Refusal,
     page: &mut Page<N>,
@@ -159,7 +159,7 @@ fn write_head<K: Sink, const N: usize>(
     write_field(refusal_name(refusal), page, output)
 }
 
-// A space and a text.
+// Puts a space and a text.
 fn write_field<K: Sink, const N: usize>(
     text: &[u8],
     page: &mut Page<N>,
@@ -205,7 +205,7 @@ pub(crate) fn write_numbers<K: Sink, const N: usize>(
     Ok(())
 }
 
-/// A word, numbers and a newline.
+/// Puts a word, numbers and a newline.
 pub(crate) fn write_numbers_line<K: Sink, const N: usize>(
     word: &[u8],
     numbers: &[u64],
@@ -219,7 +219,7 @@ pub(crate) fn write_numbers_line<K: Sink, const N: usize>(
     put(b"\n", page, output)
 }
 
-// The number of a word and the reason.
+// Puts the number of a word and the reason.
 fn write_usage<K: Sink, const N: usize>(
     word: u32,
     reason: Reason,
@@ -242,7 +242,7 @@ enum Fields {
     Usage(u32, Reason),
 }
 
-// A refusal without a field stands here too, so that none is forgotten.
+// The fields of each refusal. Refusals without a field are listed too, so that none is forgotten.
 fn fields_of(refusal: &Refusal) -> Fields
     ensures { fields_text result ≡ refusal_fields refusal.now }
 {

@@ -15,13 +15,13 @@ use std::marker::Model;
 pub struct Row {
     /// The drawer's name.
     pub name: ByteList,
-    /// Whether it is attached.
+    /// Whether the drawer is attached.
     pub attached: bool,
-    /// Whether it is suspended.
+    /// Whether the drawer is suspended.
     pub suspended: bool,
-    /// The bytes of a logical sector; 0 where it is idle.
+    /// The bytes of a logical sector; 0 if the drawer is idle.
     pub sectorsize: u32,
-    /// The number of logical sectors; 0 where it is idle.
+    /// The number of logical sectors; 0 if the drawer is idle.
     pub sectors: u64,
 }
 
@@ -41,7 +41,7 @@ impl Model for RowList {
 }
 
 impl RowList {
-    /// The list of these rows. Takes no memory.
+    /// The list of these rows. Allocates no memory.
     pub fn from_vec(rows: Vec<Row>) -> RowList
         ensures { result ≡ rows.items }
     {
@@ -69,7 +69,7 @@ pub(crate) fn write_rows<K: Sink, const N: usize>(
     Ok(())
 }
 
-// A line with the name and the state.
+// Puts a line with the name and the state of a drawer.
 fn write_row<K: Sink, const N: usize>(
     row: &Row,
     page: &mut Page<N>,
@@ -82,7 +82,7 @@ fn write_row<K: Sink, const N: usize>(
     put(b"\n", page, output)
 }
 
-// The name of a drawer's state, the bytes of a logical sector, and how many there are.
+// Puts the name of a drawer's state, the bytes of a logical sector, and how many logical sectors there are.
 fn write_sizes<K: Sink, const N: usize>(
     state: &[u8],
     row: &Row,

@@ -19,7 +19,7 @@ fn number_at(payload: &[u8], place: usize) -> u64
     u64::from_le_bytes(bytes)
 }
 
-// A line for each of so many offsets.
+// Puts a line for each of so many offsets.
 fn write_offsets<K: Sink, const N: usize>(
     payload: &[u8],
     bad: u32,
@@ -35,7 +35,7 @@ fn write_offsets<K: Sink, const N: usize>(
     Ok(())
 }
 
-/// What a sweep lists, and `ok` with the place where the next one begins and how many units fail.
+/// Puts what a sweep lists, and `ok` with the place where the next sweep begins and how many units fail.
 pub(crate) fn write_verified<K: Sink, const N: usize>(
     payload: &[u8],
     bad: u32,

@@ -9,7 +9,7 @@ use Rattle.eli_metadata.specs.Format.{magic, metadata_in}
 use Rattle.resize_kill.specs.Killing.{HoldsNoMetadata, IsNoMetadata, kill_events}
 use Rattle.resize_kill.specs.Trash.{without_magic, trash_sectors}
 
--- zeros in place of the magic
+-- a sector with zeros in place of the magic is no metadata
 IsNoMetadata-without_magic : (rest : List ℕ) → IsNoMetadata (without_magic rest)
 unfolding metadata_in magic zeros
 IsNoMetadata-without_magic rest = refl

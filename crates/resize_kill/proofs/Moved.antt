@@ -1,4 +1,4 @@
--- That metadata which move are never lost.
+-- That metadata are never lost while they move.
 use Rattle.std.proofs.Common.{◌≡◌, ◌≢◌, ℕ, zero, suc, ◌+◌, ◌*◌, ◌-◌, ◌<◌, ◌≤◌, ◌^◌, ◌==◌, List, [], ◌∷◌, ◌++◌, length, take, refl, ap, sym, subst, ◌∙◌, arith, cond, true, false, Bool, All, Ok, Err, Option, None, Some, inl, inr, Contains, ne_eqb}
 use Rattle.std.proofs.lemmas.Bool.{eq-eqb}
 use Rattle.std.proofs.lemmas.Bool.Decides.{nat_tests}
@@ -36,11 +36,11 @@ moving last new place values = Flush ∷ Write last new ∷ Flush ∷ overwrite_
 no_flush : Contains {X = Event} [] Flush → ⊥
 no_flush found = All-contains (λ (event : Event). ⊥) [] Flush (All-nil (λ (event : Event). ⊥)) found
 
--- a write elsewhere changes nothing here
+-- a write to another sector doesn't change what this one may hold
 written_elsewhere : (m n : ℕ) (values : List (List ℕ)) (value : List ℕ) → m ≢ n → cond (m == n) (values ++ value ∷ []) values ≡ values
 written_elsewhere m n values value other = ap (λ (b : Bool). cond b (values ++ value ∷ []) values) (ne_eqb m n other)
 
--- until the new sector is flushed the old place is settled
+-- until the new sector is flushed, the old place holds one value
 settled_1 : (c : Content) (place : ℕ) → kept_values (with_events (Flush ∷ []) c) place ≡ present c place ∷ []
 settled_1 c place = kept_values-more c (Flush ∷ []) place ∙ ap (λ (value : List ℕ). value ∷ []) (last_of-kept_values c place)
 
@@ -48,7 +48,7 @@ settled_2 : (c : Content) (last place : ℕ) (new : List ℕ) → last ≢ place
 settled_2 c last place new other =
     kept_values-more c (Flush ∷ Write last new ∷ []) place ∙ written_elsewhere last place (last_of (kept_values c place) ∷ []) new other ∙ ap (λ (value : List ℕ). value ∷ []) (last_of-kept_values c place)
 
--- from then on the last sector has the new sector alone
+-- once the new sector is flushed, the last sector holds this value alone
 renewed : (c : Content) (last place : ℕ) (new : List ℕ) (values : List (List ℕ)) (k : ℕ) → last ≢ place
     → All (λ (value : List ℕ). value ≡ new) (kept_values (with_events (Flush ∷ Write last new ∷ Flush ∷ take k (overwrite_events place values)) c) last)
 renewed c last place new values k other =
@@ -85,13 +85,13 @@ at_least n e = grind (arith, nat_tests)
 is_below : (bound n : ℕ) → nat_le bound n ≡ false → n < bound
 is_below bound n e = grind (arith, nat_tests)
 
--- sizes that aren't refused: two device sectors or more, and more bytes than the old size
+-- if the sizes aren't refused, there are two device sectors or more, and more bytes than the old size
 sizes_by : (a b : Bool) (x y : Refusal) → cond a (Some x) (cond b (Some y) None) ≡ None → (a ≡ false) × (b ≡ false)
 sizes_by false false x y e = (refl, refl)
 sizes_by false true x y e = absurd (cc)
 sizes_by true b x y e = absurd (cc)
 
--- of an image that grew by a device sector or more the old place is a data sector
+-- if the image has two device sectors and is larger than the old size, the old place comes before the last sector
 below_end : (sectors oldsize : ℕ) → 2 ≤ sectors → oldsize < 512 * sectors → old_place oldsize + 1 < sectors
 below_end sectors oldsize enough small = omega arith
 
@@ -100,7 +100,7 @@ old_place_below sectors oldsize served =
     let passed = sizes_by (nat_lt sectors 2) (nat_le (512 * sectors) oldsize) (refusals.TooSmall (512 * sectors)) (refusals.NotGrown (512 * sectors) oldsize) served in
     below_end sectors oldsize (at_least sectors passed.0) (is_below (512 * sectors) oldsize passed.1)
 
--- the new place has the new sector alone written
+-- nothing but the new sector is written to the new place
 only_new : (last place : ℕ) (new : List ℕ) (values : List (List ℕ)) → place < last → All (WritesHere (λ value. value ≡ new) last) (moving last new place values)
 only_new last place new values below =
     let P : List ℕ → Type 0 = λ value. value ≡ new in
@@ -109,7 +109,7 @@ only_new last place new values below =
     All-cons Q Flush (Write last new ∷ Flush ∷ overwrite_events place values) tt
     (All-cons Q (Write last new) (Flush ∷ overwrite_events place values) (λ here. refl) (All-cons Q Flush (overwrite_events place values) tt elsewhere))
 
--- what was read of a told disk is what stands there, and its last sector is that of its content
+-- what was read from a disk that reports its content is what stands there, and its last sector is that of the content
 record IsTold (disk : DiskState) (place : ℕ) (bytes : List ℕ) (c : Content) : Type 0 where
   stands : bytes ≡ present c place
   end : last_sector disk + 1 ≡ length c.base
@@ -140,7 +140,7 @@ KeepsOneOf-part disk disk' old oldsize bytes random k served gives found e =
           (λ c j is. let t = told disk place bytes c gives (omega arith) is in HoldsOneOf-more last new place old values c j t.end below (ap metadata_in (sym t.stands) ∙ found)) e;
     }
 
--- where a read is all that came before, the events of a move are those by the disk as it was
+-- a read leaves the size of the disk, so the events of a move stay the same
 events_before : (place : ℕ) (new : Metadata) (random : List ℕ) (disk middle : DiskState) → middle.size ≡ disk.size → move_events middle place new random ≡ move_events disk place new random
 events_before place new random disk middle same =
     ap (λ (n : ℕ). Flush ∷ Write (n - 1) (encoded new) ∷ Flush ∷ overwrite_events place (trash_sectors random)) same
@@ -158,7 +158,7 @@ prepared oldsize disk middle entropy entropy' old random sizes found takes fits 
   fits = fits;
 }
 
--- what the parts of a move did is what it did
+-- what the parts of a move did is what the move did
 pub moves : (oldsize : ℕ) (disk middle disk' : DiskState) (entropy entropy' : EntropyState) (old : Metadata) (random : List ℕ) → size_refusal disk.size oldsize ≡ None
     → FindsOldMetadata (old_place oldsize) oldsize disk old middle → TakesTrash random entropy entropy' → IsWhole old
     → Logs (move_events middle (old_place oldsize) (grown old disk.size) random) middle disk' → disk'.reads ≡ middle.reads → Moves oldsize disk entropy disk' entropy'
@@ -201,7 +201,7 @@ pub KeepsOneOf-MovesPart : (oldsize : ℕ) (disk disk' : DiskState) (entropy ent
 KeepsOneOf-MovesPart oldsize disk disk' entropy entropy' moves =
     KeepsOneOf-part disk disk' moves.old oldsize moves.prepares.bytes moves.random moves.fails.count moves.prepares.sizes moves.prepares.told moves.prepares.found moves.fails.logs.content
 
--- the last sector is settled by the flush after it, and the passes after that write elsewhere
+-- the flush settles the value of the last sector, and the passes after it write to another sector
 alone_after : (events : List Event) (value : List ℕ) (last : ℕ) → All (WritesHere (λ other. ⊥) last) events → kept_after events last (value ∷ []) ≡ value ∷ []
 alone_after [] value last all = refl
 alone_after (Write m new ∷ events) value last all =
@@ -232,9 +232,9 @@ KeepsAlone-Moves oldsize disk disk' entropy entropy' moves =
     let other : last_sector disk ≢ old_place oldsize = omega arith in
     alone_told disk.content disk'.content (last_sector disk) (old_place oldsize) (encoded (grown moves.old disk.size)) (trash_sectors moves.random) other moves.logs.content
 
--- ---- the metadata that are written are read again
+-- ---- the metadata that are written are read back
 
--- of three tests the second holds
+-- the second of three tests holds
 second_holds : (a b c : Bool) (value other : Metadata) (x y z : MetaFault) → cond a (cond b (cond c (Ok value) (Err z)) (Err y)) (Err x) ≡ Ok other → (b ≡ true) × (value ≡ other)
 second_holds true true true value other x y z e = (refl, cc e)
 second_holds true true false value other x y z e = absurd (cc e)

@@ -1,4 +1,4 @@
--- What `kill` answers, and what it does to the disk and the entropy (geli(8), kill).
+-- What `kill` returns, and what it does to the disk and the entropy (geli(8), kill).
 use Rattle.std.specs.Prelude.{◌≡◌, ℕ, ◌*◌, ◌<◌, ◌≤◌, List, Result, Ok, Err}
 use Rattle.block_traits.specs.Content.{Content}
 use Rattle.block_traits.specs.Disk.{DiskState, FailsIn, Logs, last_sector}

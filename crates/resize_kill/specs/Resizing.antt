@@ -1,4 +1,4 @@
--- What `resize` answers, and what it does to the disk and the entropy (geli(8), resize).
+-- What `resize` returns, and what it does to the disk and the entropy (geli(8), resize).
 use Rattle.std.specs.Prelude.{◌≡◌, ◌⊎◌, ℕ, ◌-◌, ◌*◌, ◌/◌, ◌==◌, nat_lt, nat_le, if◌then◌else◌, List, [], ◌∷◌, ◌++◌, length, get_or, Option, None, Some, Result, Ok, Err}
 use Rattle.block_traits.specs.Causes.{Counted}
 use Rattle.block_traits.specs.Content.{Content}
@@ -18,8 +18,8 @@ use Rattle.eli_metadata.specs.declared.metadata.MetaFault.{MetaFault}
 use Rattle.eli_metadata.specs.declared.metadata.Metadata.{Metadata}
 use Rattle.resize_kill.specs.Trash.{TakesTrash, trash_sectors}
 
--- the first refusal of the sizes: of an image of so many device sectors, and of an old size in bytes that isn't below
--- its own
+-- the first refusal of the sizes: an image of so many device sectors may be too small, and an old size in bytes has to
+-- be below the image's
 abbrev pub size_refusal : ℕ → ℕ → Option Refusal
 size_refusal sectors oldsize = first_that_holds (
     (nat_lt sectors 2, refusals.TooSmall (512 * sectors))
@@ -30,12 +30,12 @@ size_refusal sectors oldsize = first_that_holds (
 abbrev pub old_place : ℕ → ℕ
 old_place oldsize = oldsize / 512 - 1
 
--- what is refused of what the old place was read as
+-- the refusal of what was read from the old place
 abbrev pub old_refusal : Result Metadata MetaFault → ℕ → Option Refusal
 old_refusal (Err fault) oldsize = Some (refusal_of fault)
 old_refusal (Ok m) oldsize = if m.provsize == oldsize then None else Some (refusals.OldSizeMismatch m.provsize oldsize)
 
--- the metadata for an image of so many device sectors: all else stays
+-- the metadata with the size of an image of so many device sectors, and all else as it was
 abbrev pub grown : Metadata → ℕ → Metadata
 grown m sectors = record m { provsize = 512 * sectors }
 
@@ -43,7 +43,7 @@ grown m sectors = record m { provsize = 512 * sectors }
 abbrev pub move_events : DiskState → ℕ → Metadata → List ℕ → List Event
 move_events disk place m random = replace_events disk m ++ overwrite_events place (trash_sectors random)
 
--- a sector was read once, without an event, as this
+-- a sector was read once, without an event, and its bytes were decoded to this
 pub record Finds (place : ℕ) (disk : DiskState) (found : Result Metadata MetaFault) (disk' : DiskState) : Type 0 where
   pub bytes : List ℕ
   pub whole : length bytes ≡ 512
@@ -52,17 +52,17 @@ pub record Finds (place : ℕ) (disk : DiskState) (found : Result Metadata MetaF
   pub logs : Logs [] disk disk'
   pub asked : Counted 1 disk.reads disk'.reads
 
--- its one read failed
+-- the one read of the sector failed
 pub record FailsToFind (disk disk' : DiskState) : Type 0 where
   pub fails : FailsIn [] disk disk'
   pub asked : Counted 1 disk.reads disk'.reads
 
--- it was read as metadata of the old size
+-- the sector was read, and has metadata of the old size
 pub record FindsOldMetadata (place oldsize : ℕ) (disk : DiskState) (m : Metadata) (disk' : DiskState) : Type 0 where
   pub finds : Finds place disk (Ok m) disk'
   pub size : m.provsize ≡ oldsize
 
--- it was read, and is refused
+-- the sector was read, and what it has is refused
 pub record FindsOther (place oldsize : ℕ) (disk : DiskState) (refusal : Refusal) (disk' : DiskState) : Type 0 where
   pub found : Result Metadata MetaFault
   pub finds : Finds place disk found disk'
@@ -73,11 +73,12 @@ FindsOld place oldsize disk (Ok m) disk' = FindsOldMetadata place oldsize disk m
 FindsOld place oldsize disk (Err DeviceFault) disk' = FailsToFind disk disk'
 FindsOld place oldsize disk (Err refusal) disk' = FindsOther place oldsize disk refusal disk'
 
--- an image has the new metadata in the last sector, or what is read as the old ones in the old place
+-- an image has the new metadata in the last sector, or, in the old place, what is read as the old metadata
 abbrev pub HasOneOf : ℕ → Metadata → ℕ → Metadata → List (List ℕ) → Type 0
 HasOneOf last new place old image = (get_or image last [] ≡ encoded new) ⊎ (metadata_in (get_or image place []) ≡ Ok old)
 
--- once a flush landed, so it is in each image of a crash in which no sector was altered
+-- once a flush landed, each unaltered image of a crash has the new metadata in the last sector, or the old ones in the
+-- old place
 abbrev pub HoldsOneOf : ℕ → Metadata → ℕ → Metadata → Content → Content → Type 0
 HoldsOneOf last new place old before now = IsFlushedSince before now → (image : List (List ℕ)) → IsUnaltered now image → HasOneOf last new place old image
 
@@ -134,7 +135,7 @@ pub record RefusesSizes (oldsize : ℕ) (disk : DiskState) (entropy : EntropySta
   pub disk_unchanged : disk' ≡ disk
   pub entropy_unchanged : entropy' ≡ entropy
 
--- what the old place has is refused, and the disk has no event
+-- what was read from the old place is refused, and the disk has no event
 pub record RefusesOld (oldsize : ℕ) (disk : DiskState) (entropy : EntropyState) (refusal : Refusal) (disk' : DiskState) (entropy' : EntropyState) : Type 0 where
   pub sizes : size_refusal disk.size oldsize ≡ None
   pub finds : FindsOther (old_place oldsize) oldsize disk refusal disk'

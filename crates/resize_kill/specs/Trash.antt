@@ -1,4 +1,4 @@
--- What a place of metadata is written over with, so that no pass is metadata.
+-- What a place of metadata is written over with, so that no pass leaves metadata.
 use Rattle.std.specs.Prelude.{◌≡◌, ℕ, List, ◌++◌, length, map}
 use Rattle.block_traits.specs.Overwriting.{zeros, passes_of}
 use Rattle.block_traits.specs.Streams.{EntropyState, Takes}
@@ -11,7 +11,8 @@ trash_size = 2480
 abbrev pub without_magic : List ℕ → List ℕ
 without_magic rest = zeros 16 ++ rest
 
--- the sectors of the six passes, in order: after the zeros the pieces of random bytes, and at last zeros alone
+-- the sectors of the six passes, in order: five have a piece of the random bytes after the zeros, the last has zeros
+-- alone
 unfoldable pub trash_sectors : List ℕ → List (List ℕ)
 trash_sectors random = map without_magic (passes_of 496 random)
 

@@ -6,17 +6,17 @@ use crate::trash::{destroy, draw};
 use block_traits::{Disk, Entropy};
 use eli_base::Refusal;
 
-/// Destroys the metadata in the last sector of a disk, whatever it has: six times it is written and
-/// flushed, five times with random bytes and once with zeros, and the first sixteen bytes, where the magic
-/// stands, are zeros each time (geli(8), kill). Nothing is read.
+/// Destroys the metadata in the last sector of a disk, whatever this sector holds: it is written and flushed six
+/// times, five times with random bytes and once with zeros. The first sixteen bytes, where the magic stands, are
+/// zeros each time (geli(8), kill). Nothing is read.
 ///
-/// Once the first flush landed the last sector is no metadata any more, whenever power fails, so no key opens it
+/// Once the first flush landed, the last sector holds no metadata any more, whenever power fails, so no key opens it
 /// (`kill_leaves_no_metadata`).
 ///
-/// In this order it is refused as `TooSmall` (in bytes), exactly where there are fewer than two device
-/// sectors, and then nothing was done; as `EntropyFault`, only where the entropy failed, and then the disk
-/// is as it was; as `DeviceFault`, only where the disk failed, and then the first of the events were done,
-/// and no others. The random bytes are taken in one call, before the first event of the disk.
+/// Refusals are returned in this order: `TooSmall` (in bytes), exactly if there are fewer than two device sectors, and
+/// then nothing was done; `EntropyFault`, only if the entropy failed, and then the disk is as it was; `DeviceFault`,
+/// only if the disk failed, and then the first of the events were done, and no others. The random bytes are taken in
+/// one call, before the first event of the disk.
 pub fn kill<D: Disk, E: Entropy>(disk: &mut D, entropy: &mut E) -> Result<(), Refusal>
     ensures { Kills (D.state disk.old) (E.state entropy.old)
         result (D.state disk.new) (E.state entropy.new) }

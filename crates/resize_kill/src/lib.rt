@@ -1,7 +1,7 @@
 //! The commands that destroy a place of metadata by writing over it (geli(8)).
 //!
 //! `kill` destroys the metadata of a provider, and `resize` moves those of a provider whose image has
-//! grown and destroys the old ones. No call takes memory.
+//! grown and destroys the old ones. No call allocates memory.
 #![tactic(auto)]
 
 mod killing;

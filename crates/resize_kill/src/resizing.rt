@@ -9,7 +9,7 @@ use block_traits::{Disk, DiskFailed, Entropy};
 use eli_base::Refusal;
 use eli_metadata::{Metadata, decode, replace_metadata};
 
-// Refuses an image of so many device sectors, and an old size that isn't below its own.
+// Refuses an image of so many device sectors if they are too few, and an old size that isn't below the image's.
 fn check_sizes(sectors: u64, oldsize: u64) -> Result<(), Refusal>
     requires { sectors < 2 ^ 44 }
     ensures ok { OnOk result (size_refusal sectors oldsize ≡ None) }
@@ -29,7 +29,7 @@ fn check_sizes(sectors: u64, oldsize: u64) -> Result<(), Refusal>
     Ok(())
 }
 
-// The metadata that a sector has, if they are those of a provider of the old size.
+// The metadata in a sector, if they are those of a provider of the old size.
 fn find_old<D: Disk>(disk: &mut D, place: u64, oldsize: u64) -> Result<Metadata, Refusal>
     requires { place < (D.state disk.old).size }
     ensures finds { FindsOld place oldsize (D.state disk.old) result (D.state disk.new) }
@@ -48,7 +48,7 @@ fn find_old<D: Disk>(disk: &mut D, place: u64, oldsize: u64) -> Result<Metadata,
     Ok(meta)
 }
 
-// Puts metadata into the last sector, and then destroys what the old place has. Nothing is read.
+// Puts metadata into the last sector, and then destroys what the old place holds. Nothing is read.
 fn move_metadata<D: Disk>(
     disk: &mut D,
     place: u64,
@@ -64,24 +64,23 @@ fn move_metadata<D: Disk>(
     destroy(disk, place, random)
 }
 
-/// Moves the metadata of a provider whose image has grown from so many bytes, `oldsize`, to the last
-/// sector as it now is, with the image's size in them, and destroys those in the old place: six times it is
-/// written and flushed, five times with random bytes and once with zeros, and the first sixteen bytes are
-/// zeros each time (geli(8), resize). The metadata keep their version and all else but the size. The old
-/// place is read once, also where that fails, and no other sector.
+/// Moves the metadata of a provider whose image has grown from `oldsize` bytes to the sector that is the last one
+/// now, and puts the image's size in them. Then the metadata in the old place are destroyed: this sector is written
+/// and flushed six times, five times with random bytes and once with zeros, and its first sixteen bytes are zeros each
+/// time (geli(8), resize). The metadata keep their version and all else but the size. The old place is read once, even
+/// if that fails, and no other sector is read.
 ///
-/// Until the first flush landed every sector holds what it might hold before, whenever power fails. From
-/// then on the last sector holds the new metadata or the old place the old ones, in each image that a crash
-/// leaves and nobody alters. Once it's done the last sector holds the new metadata alone
-/// (`resize_leaves_one_of_both`), which are read again (`what_resize_writes_is_read_again`).
+/// Until the first flush landed, every sector holds what it might hold before, whenever power fails. After this flush
+/// the last sector holds the new metadata or the old place the old ones, in each image that a crash leaves and nobody
+/// alters. Once the call is done, the last sector holds the new metadata alone (`resize_leaves_one_of_both`), and they
+/// can be read back (`what_resize_writes_is_read_again`).
 ///
-/// In this order it is refused as `TooSmall` (in bytes: fewer than two device sectors), or as `NotGrown`,
-/// exactly where the old size isn't below the image's, in bytes, and then nothing was done; as
-/// `DeviceFault`, only where the read failed; as `decode` refuses what the old place has; as
-/// `OldSizeMismatch`, exactly where its metadata are of another size, in bytes; as `EntropyFault`, only where
-/// the entropy failed, and then the disk has no event; as `DeviceFault`, only where the disk failed, and then
-/// the first of the events were done, and no others. The random bytes are taken in one call, before the
-/// first event of the disk.
+/// Refusals are returned in this order: `TooSmall` (in bytes: fewer than two device sectors), and `NotGrown`, exactly
+/// if the old size isn't below the image's, in bytes, and then nothing was done; `DeviceFault`, only if the read
+/// failed; the refusal of `decode` for what the old place holds; `OldSizeMismatch`, exactly if the metadata there have
+/// another size, in bytes; `EntropyFault`, only if the entropy failed, and then the disk has no event; `DeviceFault`,
+/// only if the disk failed, and then the first of the events were done, and no others. The random bytes are taken in
+/// one call, before the first event of the disk.
 pub fn resize<D: Disk, E: Entropy>(
     disk: &mut D,
     oldsize: u64,

@@ -8,7 +8,7 @@ ghost use Rattle.resize_kill.specs.Trash.{TakesTrash, trash_sectors, without_mag
 
 use block_traits::{Disk, DiskFailed, Entropy, EntropyFailed, Pass, Sector, overwrite, passes};
 
-/// Takes the random bytes of the random passes, all in one call. A failure takes nothing.
+/// Takes the random bytes of the five random passes, all in one call. A failure takes nothing.
 pub fn draw<E: Entropy>(entropy: &mut E) -> Result<[u8; 2480], EntropyFailed>
     ensures ok { IfOk result (λ random. TakesTrash random (E.state entropy.old) (E.state entropy.new)) }
     ensures err { OnErr result (TakesNone (E.state entropy.old) (E.state entropy.new)) }
@@ -18,7 +18,7 @@ pub fn draw<E: Entropy>(entropy: &mut E) -> Result<[u8; 2480], EntropyFailed>
     Ok(random)
 }
 
-// A pass makes a sector of its bytes: zeros in place of the magic, and the bytes after them.
+// A pass makes a sector from its bytes: zeros in place of the magic, and the bytes after them.
 #[derive(Clone, Copy)]
 struct WithoutMagic;
 
@@ -46,9 +46,9 @@ fn trash_sectors(random: &[u8; 2480]) -> [Sector; 6]
     passes(&WithoutMagic, random)
 }
 
-/// Writes over sector `n` in six passes, each a write and a flush: five by these random bytes, and one
-/// of zeros. The first sixteen bytes of each are zeros. Where it fails, the first of these events were
-/// done, and no others. Nothing is read.
+/// Writes over sector `n` in six passes, each a write and a flush: five with these random bytes, and one with zeros.
+/// The first sixteen bytes of each are zeros. If the disk fails, the first of these events were done, and no others.
+/// Nothing is read.
 pub fn destroy<D: Disk>(disk: &mut D, n: u64, random: &[u8; 2480]) -> Result<(), DiskFailed>
     requires { n < (D.state disk.old).size }
     ensures ok { OnOk result (Logs (overwrite_events n (trash_sectors random.now)) (D.state disk.old) (D.state disk.new)) }

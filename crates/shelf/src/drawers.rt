@@ -199,7 +199,7 @@ impl<D: Disk> Drawers<D> {
     }
 }
 
-// One where a flush failed.
+// 1 if a flush failed, or else 0.
 fn failures(refused: bool) -> u32
     ensures { result ≡ failures refused }
 {

@@ -1,6 +1,6 @@
 use Rattle.std.proofs.Common.{refl}
 use Rattle.command_words.proofs.lines.command.Goals as goal
 
--- Of the other verbs `search` computes the row by itself.
+-- For the other verbs `search` computes the row by itself.
 pub returns-in-Detach : goal.returns-in-Detach
 returns-in-Detach c = rw c.in-Detach.is refl

@@ -7,7 +7,7 @@ use Rattle.command_words.specs.Reading.{complaint}
 use Rattle.command_words.proofs.OperandsLemmas.{settled_taken}
 use Rattle.command_words.proofs.lines.settle.Goals as goal
 
--- an error that was handed on
+-- an error that was passed on
 handed_on : (result : Result Command Usage) (usage : Usage) (other : Result Command Usage) → IsErrAnd result (λ e. e ≡ usage) → other ≡ Err usage → result ≡ other
 handed_on (Ok command) usage other h e = absurd h
 handed_on (Err own) usage other h e = ap Err h ∙ sym e

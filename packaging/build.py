@@ -5,7 +5,7 @@
 
 A run of rt holds the folders of its crate and of all crates below, so each crate is built in a small tree of its own,
 over what was built of the others. What is proved of a library goes to its out/ in TREE, so a build that was broken off
-goes on there. The crate with the longest chain of others behind it comes first.
+goes on there. The crate with the longest chain of others behind it comes first, and the others yield processors to it.
 
 At x86-64-v3 one word of the sources is another: AES goes by planes of 32 bytes (crates/aes_planes/src/width.rt). So
 the crates on aes_planes are proved for that level by themselves, and their libraries are kept in out/wide/ of TREE.
@@ -32,8 +32,8 @@ import time
 PARTS = ("src", "specs", "proofs")
 BYTES_OF_JOB = 4_000_000_000
 MOST_JOBS_OF_CRATE = 4
-# What each job costs at its start where a crate has several, and from when on they gain: seconds of a processor.
-START_OF_JOB, WORK_FOR_JOBS = 18, 120
+# How much lower the priority of a crate is on which less depends than on another that is being proved (nice(1)).
+YIELDS = 10
 SECONDS_OF_SILENCE = 60
 WIDE_LEVELS = ("x86-64-v3",)
 WIDTH_CRATE, WIDTH_FILE = "aes_planes", "src/width.rt"
@@ -73,9 +73,9 @@ def below(uses, name):
 
 
 class Costs:
-    """What each crate took on the machine of costs.txt: the seconds of its processors, and how many of them went by
-    while one worked and the others had nothing to do. If a crate isn't listed they are guessed by the lines of its
-    code."""
+    """What each crate took on the machine of costs.txt, in seconds: of a processor with one job, how many of these no
+    other job can share, and what each of several jobs costs at its start. If a crate isn't listed they are guessed by
+    the lines of its code."""
 
     def __init__(self, tree):
         self.tree, self.listed = tree, {}
@@ -92,20 +92,21 @@ class Costs:
             for file in files:
                 with open(f"{at}/{file}", "rb") as it:
                     lines += it.read().count(b"\n")
-        return 15 + lines / 10, 10
+        return 20 + lines / 10, 20, 20
 
     def work(self, name, jobs):
         """Returns the seconds of processors that the crate takes with so many jobs."""
-        return self.of(name)[0] + (START_OF_JOB * jobs if jobs > 1 else 0)
+        one, _, start = self.of(name)
+        return one + (start * jobs if jobs > 1 else 0)
+
+    def seconds(self, name, jobs):
+        """Returns how long the crate takes with so many jobs, if each has a processor."""
+        alone = self.of(name)[1]
+        return alone + (self.work(name, jobs) - alone) / jobs
 
     def jobs(self, name):
-        """Returns how many jobs are best for the crate, if no other waits."""
-        return MOST_JOBS_OF_CRATE if self.of(name)[0] >= WORK_FOR_JOBS else 1
-
-    def seconds(self, name):
-        """Returns how long the crate takes with these."""
-        alone, jobs = self.of(name)[1], self.jobs(name)
-        return alone + (self.work(name, jobs) - alone) / jobs
+        """Returns with how many jobs the crate takes least."""
+        return min(range(1, MOST_JOBS_OF_CRATE + 1), key=lambda jobs: self.seconds(name, jobs))
 
 
 def text_of(file):
@@ -173,13 +174,14 @@ class Build:
             self.crates += [it for it in [*below(self.uses, top), top] if it not in self.crates]
         self.costs = Costs(tree)
         # How long the longest chain takes that begins with the crate.
-        self.chain = {it: self.costs.seconds(it) for it in self.crates}
+        least = {it: self.costs.seconds(it, self.costs.jobs(it)) for it in self.crates}
+        self.chain = dict(least)
         for name in reversed(self.crates):
             for dep in self.uses[name]:
-                self.chain[dep] = max(self.chain[dep], self.costs.seconds(dep) + self.chain[name])
+                self.chain[dep] = max(self.chain[dep], least[dep] + self.chain[name])
         self.lanes, self.may_exceed = processors()
-        # The processor seconds of each crate that is built, and its jobs.
-        self.began, self.took, self.jobs = time.monotonic(), {}, {}
+        # The processor seconds of each crate that is built, its jobs, and whether others yield to it.
+        self.began, self.took, self.jobs, self.heads = time.monotonic(), {}, {}, set()
         self.is_ending, self.started = False, set()
 
     def home(self, name):
@@ -229,6 +231,9 @@ class Build:
             return False
         with subprocess.Popen(["rt", *words], cwd=folder, stdin=subprocess.DEVNULL, stdout=log, stderr=log) as ran:
             self.started.add(ran)
+            if os.path.basename(folder) not in self.heads:
+                with contextlib.suppress(OSError):
+                    os.setpriority(os.PRIO_PROCESS, ran.pid, os.getpriority(os.PRIO_PROCESS, 0) + YIELDS)
             _, status, used = os.wait4(ran.pid, 0)
             ran.returncode = os.waitstatus_to_exitcode(status)
             self.started.discard(ran)
@@ -276,25 +281,31 @@ class Build:
         proved = [it for it in done if 10 * self.took[it] > work[it]]
         expected = sum(work[it] for it in proved)
         rate = sum(self.took[it] for it in proved) / expected if 20 * expected > sum(work.values()) else 1
-        waiting, step, seconds, rest = set(waiting), 5, 0, {}
+        waiting, step, seconds, rest, since, heads = set(waiting), 5, 0, {}, {}, set(self.heads)
 
         def begin(name, jobs, gone):
             alone, shared = self.costs.of(name)[1], self.costs.work(name, jobs) - self.costs.of(name)[1]
             rest[name] = [jobs, rate * alone - gone, max(rate * shared - jobs * max(gone - rate * alone, 0), step)]
+            since[name] = seconds - gone
 
         for name, (jobs, gone) in running.items():
             begin(name, jobs, gone)
         while waiting or rest:
-            while found := self.next_of(waiting, done, {name: it[0] for name, it in rest.items()}):
-                waiting.discard(found[0])
-                begin(*found, 0)
-            busy = sum(1 if alone > 0 else jobs for jobs, alone, _ in rest.values())
-            share = step * min(1, self.lanes / busy)
-            for it in rest.values():
-                if it[1] > 0:
-                    it[1] -= share
-                else:
-                    it[2] -= share * it[0]
+            while found := self.next_of(waiting, done, {it: (rest[it][0], seconds - since[it]) for it in rest}):
+                name, jobs, is_head = found
+                waiting.discard(name)
+                heads |= {name} if is_head else set()
+                begin(name, jobs, 0)
+            idle = self.lanes
+            for group in (rest.keys() & heads, rest.keys() - heads):
+                wanted = sum(1 if rest[it][1] > 0 else rest[it][0] for it in group)
+                share = min(1, idle / wanted) if wanted else 0
+                idle -= share * wanted
+                for it in group:
+                    if rest[it][1] > 0:
+                        rest[it][1] -= step * share
+                    else:
+                        rest[it][2] -= step * share * rest[it][0]
             for name in [name for name, it in rest.items() if it[1] <= 0 and it[2] <= 0]:
                 done.add(name)
                 del rest[name]
@@ -304,7 +315,7 @@ class Build:
     def tell(self, waiting, running):
         """Says what is being proved, how far that is, and about how long the rest takes."""
         now, count = time.monotonic(), len(self.crates) - len(waiting) - len(running)
-        left = self.left(waiting, {it: (jobs, now - since) for it, (jobs, since) in running.items()})
+        left = self.left(waiting, running)
         names = " ".join(sorted(running, key=self.chain.get, reverse=True))
         say(
             f"{count} of {len(self.crates)} crates are proved, {(now - self.began) / 60:.0f} minutes gone, "
@@ -312,37 +323,43 @@ class Build:
         )
 
     def next_of(self, waiting, done, running):
-        """Returns the crate that is to begin and how many jobs it gets, or None. `running` has the jobs of the rest."""
+        """Returns the crate that is to begin, how many jobs it gets, and whether others yield to it; or None. `running`
+        has the jobs of the rest, and for how long each has been built."""
         ready, idle = [it for it in waiting if all(dep in done for dep in self.uses[it])], self.lanes - len(running)
         if not self.may_exceed:
-            idle = self.lanes - sum(running.values())
+            idle = self.lanes - sum(jobs for jobs, _ in running.values())
         if not ready or idle < 1:
             return None
         name = max(ready, key=self.chain.get)
+        is_head = all(self.chain[name] >= self.chain[it] - gone for it, (_, gone) in running.items())
         if not self.may_exceed:
-            return name, max(1, min(MOST_JOBS_OF_CRATE, idle - len(ready) + 1))
+            return name, max(1, min(MOST_JOBS_OF_CRATE, idle - len(ready) + 1)), is_head
         # The crate that the rest waits for longest gets several if that is quicker, and the others fill what it leaves
         # idle: a crate keeps the jobs that it began with.
-        is_head = all(self.chain[name] >= self.chain[it] for it in running)
-        return name, min(self.lanes, self.costs.jobs(name) if is_head else 1)
+        return name, min(self.lanes, self.costs.jobs(name)) if is_head else 1, is_head
 
     def all(self):
         """Builds all, and returns the name of the crate that failed, or None."""
         waiting, done, running, parent, told, ended = set(self.crates), set(), {}, os.getppid(), 0, None
+
+        def ages():
+            return {name: (self.jobs[name], time.monotonic() - since) for name, since in running.values()}
+
         for name in self.crates:
             self.take(name)
         with concurrent.futures.ThreadPoolExecutor(self.lanes) as pool:
             while waiting or running:
-                while found := self.next_of(waiting, done, {name: jobs for name, jobs, _ in running.values()}):
-                    waiting.discard(found[0])
-                    self.jobs[found[0]] = found[1]
-                    running[pool.submit(self.prove, *found)] = *found, time.monotonic()
+                while found := self.next_of(waiting, done, ages()):
+                    name, self.jobs[found[0]], is_head = found
+                    waiting.discard(name)
+                    self.heads |= {name} if is_head else set()
+                    running[pool.submit(self.prove, name, self.jobs[name])] = name, time.monotonic()
                 if ended or time.monotonic() - told > SECONDS_OF_SILENCE:
                     told = time.monotonic()
-                    self.tell(waiting, {name: (jobs, since) for name, jobs, since in running.values()})
+                    self.tell(waiting, ages())
                 ended = concurrent.futures.wait(running, 1, concurrent.futures.FIRST_COMPLETED).done
                 for it in ended:
-                    name, _, _ = running.pop(it)
+                    name, _ = running.pop(it)
                     if not it.result():
                         self.end()
                         return name

@@ -7,5 +7,5 @@ mod Options
 mod Places
 pub mod Said
 mod Text
-mod Words
+mod WordsLemmas
 pub mod Scan

@@ -66,7 +66,7 @@ impl<'a> Words<'a> {
     }
 
     /// The next word and the words after it.
-    #[tactic(auto, using(crate::proofs::Words::word_taken))]
+    #[tactic(auto, using(crate::proofs::WordsLemmas::word_taken))]
     pub fn split_first(self) -> Option<(Piece<'a>, Words<'a>)>
         ensures words { MatchOption result (left self.entry ≡ [])
             (λ taken. left self.entry ≡ seen taken.0 ∷ left taken.1) }

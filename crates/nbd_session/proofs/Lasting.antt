@@ -471,7 +471,7 @@ flushed_keeps k xs c new is s flush r a t image inside late torn =
     let taken : take t (session_steps 0 k xs s.deeds) ≡ (before_flush ++ Flush ∷ []) ++ later = ap (take t) all ∙ take-past (before_flush ++ Flush ∷ []) since t long in
     let quiet : IsQuiet k (first_sector k r) (sectors_covered k r) later =
     λ n low high. quiet-take (t - length (before_flush ++ Flush ∷ [])) since n
-    (quiet-session a.since cut.second (0 + length through) k (after (session_steps 0 k through cut.first) c) r acked.alone cut.did_second n low high) in
+    (quiet-session a.since cut.second (0 + length through) k (after (session_steps 0 k through cut.first) c) r a.alone cut.did_second n low high) in
     kept-by k c r before_flush later image is inside quiet
     (subst (λ (now : Content). IsTorn now image) (moment-after t (session_steps 0 k xs s.deeds) c ∙ ap (λ (l : List Step). after l c) taken) torn)
     ∙ ap (λ (l : List Step). range_reading k (after l c) r) (sym until)

@@ -375,7 +375,8 @@ take-past a b t late =
     ap (λ (n : ℕ). take n (a ++ b)) split ∙ take-append-add a b (t - length a)
 
 pub acknowledged_lasts : (k : Keying) (xs : List Exchange) (c : Content) (new : DiskState) → IsKeying k → (s : Survives k xs c new) → LastsIn k xs c s.deeds
-acknowledged_lasts k xs c new is s x bytes part a t image late torn =
+acknowledged_lasts k xs c new is s x bytes part acked t image late torn =
+    let a = acked.write in
     let through : List Exchange = a.before ++ (x ∷ a.between) in
     let shape : xs ≡ through ++ a.since = a.are ∙ sym (append_assoc a.before (x ∷ a.between) a.since) in
     let cut = split-did through a.since s.deeds 0 k c (subst (λ (l : List Exchange). DidEach 0 k c l s.deeds) shape s.did) in
@@ -394,8 +395,8 @@ acknowledged_lasts k xs c new is s x bytes part a t image late torn =
     let taken : take t (session_steps 0 k xs s.deeds) ≡ (early ++ mine) ++ later = ap (take t) all ∙ take-past (early ++ mine) since t long in
     let quiet : IsQuiet k (first_sector k part) (sectors_covered k part) later =
     λ n low high. quiet-take (t - length (early ++ mine)) since n
-    (quiet-session a.since cut.second (0 + length through) k (after (session_steps 0 k through cut.first) c) part (alone-second (LeavesAlone k part) a.between a.since a.alone) cut.did_second n low high) in
-    lasting-by head.second (0 + length a.before) k c x a.between bytes part early later image is head.did_second a.wrote a.done (elim a.flushed [ inl own ↦ inl own | inr more ↦ inr (inl more) ]) a.part_is (alone-first (LeavesAlone k part) a.between a.since a.alone) quiet
+    (quiet-session a.since cut.second (0 + length through) k (after (session_steps 0 k through cut.first) c) part (alone-second (LeavesAlone k part) a.between a.since acked.alone) cut.did_second n low high) in
+    lasting-by head.second (0 + length a.before) k c x a.between bytes part early later image is head.did_second a.wrote a.done (elim a.flushed [ inl own ↦ inl own | inr more ↦ inr (inl more) ]) acked.part_is (alone-first (LeavesAlone k part) a.between a.since acked.alone) quiet
     (subst (λ (now : Content). IsTorn now image) (moment-after t (session_steps 0 k xs s.deeds) c ∙ ap (λ (l : List Step). after l c) taken) torn)
 
 -- ---- what a flush found

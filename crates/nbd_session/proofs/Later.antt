@@ -26,7 +26,7 @@ use Rattle.readings.proofs.Settled.{cell_after-append}
 use Rattle.readings.proofs.Survivors.{room, some-units}
 use Rattle.sealing.specs.Sectors.{unit_place, units}
 use Rattle.nbd_session.specs.Durable.{Deed, DidBy, DidEach, IsOfKind, IsOfWrite, Survives, all_steps, exchange_steps, flush_steps, session_steps, steps_of_kind, steps_of_write}
-use Rattle.nbd_session.specs.Lasting.{AttachesLastingOrLater, Covers, HasFlushed, HasGiven, HoldsOrLater, IsBehindFlush, IsFlushedWrite, IsGivenSince, IsInUnit, IsPartOf, IsTornThere, OneHasFlushed, OneHasGiven, OneHasGivenBytes, PartsLastOrLater, ReadsLastingOrLater, UnitsLastOrLater, WroteBy, part_bytes, sector_given, steps_left}
+use Rattle.nbd_session.specs.Lasting.{AttachesLastingOrLater, Covers, HasFlushed, HasGiven, HoldsOrLater, IsFlushedWrite, IsGivenSince, IsInUnit, IsPartOf, IsPastFlush, IsTornThere, OneHasFlushed, OneHasGiven, OneHasGivenBytes, PartsLastOrLater, ReadsLastingOrLater, UnitsLastOrLater, WroteBy, part_bytes, sector_given, steps_left}
 use Rattle.nbd_session.specs.Requests.{Exchange, range_of}
 use Rattle.nbd_session.proofs.InUnits.{part-stands, some_covered}
 use Rattle.nbd_session.proofs.Lasting.{attached_reads, cut_out, four, have-own, lies, one-flushed, own-flush, quiet-flush, reads-range, split-did, steps-more, steps-split, take-past, wrote-by}
@@ -229,7 +229,7 @@ there_are k xs c new s x bytes a sector covers =
     omega (arith, inside, high, same)
 
 stands_later : (k : Keying) (xs : List Exchange) (c : Content) (new : DiskState) → IsKeying k → (s : Survives k xs c new) (x : Exchange) (bytes : List ℕ) (a : IsFlushedWrite xs x bytes) (t sector j : ℕ) (image : List (List ℕ))
-    → IsBehindFlush k xs x bytes a s.deeds t → Covers k (range_of x.request) sector → j < units k → IsTorn (moment t (session_steps 0 k xs s.deeds) c) image
+    → IsPastFlush k xs x bytes a s.deeds t → Covers k (range_of x.request) sector → j < units k → IsTorn (moment t (session_steps 0 k xs s.deeds) c) image
     → Stands (IsGivenSince k xs x bytes a s.deeds t sector j) k j (image_unit k sector image j)
     ⊎ IsTornThere (cell c (take t (session_steps 0 k xs s.deeds)) (unit_place k sector j)) (moment t (session_steps 0 k xs s.deeds) c) image (unit_place k sector j)
 stands_later k xs c new is s x bytes a t sector j image late covers lt torn =
@@ -330,7 +330,7 @@ parts_later k xs c new is s x bytes part a t j image then torn =
     let first = in_it.first in
     let count = in_it.count in
     let covers : Covers k (range_of x.request) sector = record { low = omega (arith, first); high = omega (arith, first, count, one) } in
-    let stand = λ (i : ℕ) (lt : i < units k). let h : Stands (P i) k i (image_unit k sector image i) = elim (stands_later k xs c new is s x bytes a t sector i image then.behind covers lt torn) [
+    let stand = λ (i : ℕ) (lt : i < units k). let h : Stands (P i) k i (image_unit k sector image i) = elim (stands_later k xs c new is s x bytes a t sector i image then.past covers lt torn) [
       | inl st ↦ st
       | inr there ↦ absurd (then.settled i lt there.unsettled)
     ] in h in

@@ -84,8 +84,8 @@ WroteBy kinds.WriteZeroes x bytes = bytes ≡ zeros_of x.request
 WroteBy kind x bytes = ⊥
 
 -- One of a session's exchanges is a write of these bytes that was done, and it or one of those just after it has
--- flushed. None of these and none of the rest wrote the sectors of this part of its range again.
-pub record IsAcknowledged (k : Keying) (xs : List Exchange) (x : Exchange) (bytes : List ℕ) (part : ByteRange) : Type 0 where
+-- flushed. What all others wrote, and where, is left open.
+pub record IsFlushedWrite (xs : List Exchange) (x : Exchange) (bytes : List ℕ) : Type 0 where
   pub before : List Exchange
   pub between : List Exchange
   pub since : List Exchange
@@ -93,18 +93,23 @@ pub record IsAcknowledged (k : Keying) (xs : List Exchange) (x : Exchange) (byte
   pub wrote : WroteBy (request_kind x.request.code) x bytes
   pub done : x.error ≡ Done
   pub flushed : HasFlushed x ⊎ OneHasFlushed between
-  pub part_is : IsPartOf part (range_of x.request)
-  pub alone : AllByRecursion (LeavesAlone k part) (between ++ since)
 
--- as many steps as the exchanges did up to the flush
-abbrev pub steps_to_flush : (k : Keying) (xs : List Exchange) (x : Exchange) (bytes : List ℕ) (part : ByteRange) → IsAcknowledged k xs x bytes part → List Deed → ℕ
-steps_to_flush k xs x bytes part a deeds = length (session_steps 0 k (a.before ++ (x ∷ a.between)) deeds)
+-- so many steps are those of the exchanges up to the flush, or more
+abbrev pub IsPastFlush : (k : Keying) (xs : List Exchange) (x : Exchange) (bytes : List ℕ) → IsFlushedWrite xs x bytes → List Deed → ℕ → Type 0
+IsPastFlush k xs x bytes a deeds t = length (session_steps 0 k (a.before ++ (x ∷ a.between)) deeds) ≤ t
+
+-- One of a session's exchanges is a write of these bytes, and was flushed. Neither the exchanges up to the flush nor
+-- those after it wrote the sectors of this part of its range again.
+pub record IsAcknowledged (k : Keying) (xs : List Exchange) (x : Exchange) (bytes : List ℕ) (part : ByteRange) : Type 0 where
+  pub write : IsFlushedWrite xs x bytes
+  pub part_is : IsPartOf part (range_of x.request)
+  pub alone : AllByRecursion (LeavesAlone k part) (write.between ++ write.since)
 
 -- A write that is acknowledged lasts. If power fails when the flush was answered, or at any moment later, each such
 -- part of its range reads as its bytes there in every torn image that is left.
 abbrev pub LastsIn : Keying → List Exchange → Content → List Deed → Type 0
 LastsIn k xs c deeds = (x : Exchange) (bytes : List ℕ) (part : ByteRange) (a : IsAcknowledged k xs x bytes part) (t : ℕ) (image : List (List ℕ)) →
-    steps_to_flush k xs x bytes part a deeds ≤ t → IsTorn (moment t (session_steps 0 k xs deeds) c) image →
+    IsPastFlush k xs x bytes a.write deeds t → IsTorn (moment t (session_steps 0 k xs deeds) c) image →
     range_reading k (survivor image) part ≡ Ok (part_bytes part (range_of x.request) bytes)
 
 -- and so does whoever serves a read of just this part on a disk with that image, under the same keying: the answer has
@@ -118,26 +123,11 @@ AnswersWith PassesEnd y bytes old = ⊥
 
 abbrev pub ReadsLasting : Keying → List Exchange → Content → List Deed → Type 0
 ReadsLasting k xs c deeds = (x : Exchange) (bytes : List ℕ) (part : ByteRange) (a : IsAcknowledged k xs x bytes part) (t : ℕ) (image : List (List ℕ)) →
-    steps_to_flush k xs x bytes part a deeds ≤ t → IsTorn (moment t (session_steps 0 k xs deeds) c) image →
+    IsPastFlush k xs x bytes a.write deeds t → IsTorn (moment t (session_steps 0 k xs deeds) c) image →
     (side : Side) (y : Exchange) (old : DiskState) → side.keying ≡ k → HasImage image old → ServesExchange side y old →
     request_kind y.request.code ≡ kinds.Read → range_of y.request ≡ part → AnswersWith y.error y (part_bytes part (range_of x.request) bytes) old
 
 -- ---- what may have been written again
-
--- One of a session's exchanges is a write of these bytes that was done, and it or one of those just after it has
--- flushed. What all others wrote, and where, is left open.
-pub record IsFlushedWrite (xs : List Exchange) (x : Exchange) (bytes : List ℕ) : Type 0 where
-  pub before : List Exchange
-  pub between : List Exchange
-  pub since : List Exchange
-  pub are : xs ≡ before ++ (x ∷ (between ++ since))
-  pub wrote : WroteBy (request_kind x.request.code) x bytes
-  pub done : x.error ≡ Done
-  pub flushed : HasFlushed x ⊎ OneHasFlushed between
-
--- so many steps are those of the exchanges up to the flush, or more
-abbrev pub IsBehindFlush : (k : Keying) (xs : List Exchange) (x : Exchange) (bytes : List ℕ) → IsFlushedWrite xs x bytes → List Deed → ℕ → Type 0
-IsBehindFlush k xs x bytes a deeds t = length (session_steps 0 k (a.before ++ (x ∷ a.between)) deeds) ≤ t
 
 -- a range has bytes of this logical sector
 pub record Covers (k : Keying) (r : ByteRange) (sector : ℕ) : Type 0 where
@@ -174,7 +164,7 @@ IsGivenSince k xs x bytes a deeds t sector j w =
 -- later one.
 abbrev pub HoldsOrLater : Keying → List Exchange → Content → List Deed → Type 0
 HoldsOrLater k xs c deeds = (x : Exchange) (bytes : List ℕ) (a : IsFlushedWrite xs x bytes) (t sector j : ℕ) →
-    IsBehindFlush k xs x bytes a deeds t → Covers k (range_of x.request) sector → j < units k →
+    IsPastFlush k xs x bytes a deeds t → Covers k (range_of x.request) sector → j < units k →
     All (IsGivenSince k xs x bytes a deeds t sector j) (cell c (take t (session_steps 0 k xs deeds)) (unit_place k sector j))
 
 -- a unit reads as one for which this holds
@@ -193,7 +183,7 @@ pub record IsTornThere (cell : List Writing) (now : Content) (image : List (List
 -- and then `Endures` says what it may read as.
 abbrev pub UnitsLastOrLater : Keying → List Exchange → Content → List Deed → Type 0
 UnitsLastOrLater k xs c deeds = (x : Exchange) (bytes : List ℕ) (a : IsFlushedWrite xs x bytes) (t sector j : ℕ) (image : List (List ℕ)) →
-    IsBehindFlush k xs x bytes a deeds t → Covers k (range_of x.request) sector → j < units k →
+    IsPastFlush k xs x bytes a deeds t → Covers k (range_of x.request) sector → j < units k →
     IsTorn (moment t (session_steps 0 k xs deeds) c) image →
     ReadsAsSuch (IsGivenSince k xs x bytes a deeds t sector j) k (image_unit k sector image j)
     ⊎ IsTornThere (cell c (take t (session_steps 0 k xs deeds)) (unit_place k sector j)) (moment t (session_steps 0 k xs deeds) c) image (unit_place k sector j)
@@ -237,7 +227,7 @@ IsGivenPart k xs x bytes a deeds t part got =
 -- A part of its range that lies in one unit, at a moment from the flush's answer on at which its logical sector wasn't
 -- being written.
 pub record IsSettledPart (k : Keying) (xs : List Exchange) (c : Content) (deeds : List Deed) (x : Exchange) (bytes : List ℕ) (a : IsFlushedWrite xs x bytes) (t : ℕ) (part : ByteRange) (j : ℕ) : Type 0 where
-  pub behind : IsBehindFlush k xs x bytes a deeds t
+  pub past : IsPastFlush k xs x bytes a deeds t
   pub part_is : IsPartOf part (range_of x.request)
   pub inside : IsInUnit k j part
   pub front : KeepsFront k j part
@@ -290,7 +280,7 @@ AttachesAndAnswers state r bytes (Err refused) = refused.1 ≡ attach.NoMemory
 -- so does whoever attaches a disk with that image with a key that opens it to the same keying
 abbrev pub AttachesLasting : {D : Type 0} → (D → DiskState) → Keying → List Exchange → Content → List Deed → Type 0
 AttachesLasting {D} state k xs c deeds = (x : Exchange) (bytes : List ℕ) (part : ByteRange) (a : IsAcknowledged k xs x bytes part) (t : ℕ) (image : List (List ℕ)) →
-    steps_to_flush k xs x bytes part a deeds ≤ t → IsTorn (moment t (session_steps 0 k xs deeds) c) image →
+    IsPastFlush k xs x bytes a.write deeds t → IsTorn (moment t (session_steps 0 k xs deeds) c) image →
     (m : Metadata) (params : Params) (key : List ℕ) (readonly : Bool) (s : ℕ) (master : List ℕ) (disk : D) (result : Result (Attached D) (D × AttachFault)) →
     HasImage image (state disk) → IsOpenedBy image m params key s master → keying_of params (record { bytes = master }) ≡ k →
     AttachAnswers (record { meta = m; params = params; disk = state disk }) (record { key = key; named = None; readonly = readonly }) disk result →

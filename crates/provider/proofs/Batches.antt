@@ -22,17 +22,27 @@ pub batch_length : (size many wide i : ℕ) (bytes : List ℕ) → wide ≡ many
 batch_length size many wide i bytes broad room =
     length-take-le wide (drop (i * size) bytes) (omega (arith, length-drop (i * size) bytes, room, broad)) ∙ broad
 
-pub batch_count : (size many wide i : ℕ) (bytes : List ℕ) → 0 < size → wide ≡ many * size → (i + many) * size ≤ length bytes → length (take wide (drop (i * size) bytes)) / size ≡ many
-batch_count size many wide i bytes some broad room = ap (λ (n : ℕ). n / size) (batch_length size many wide i bytes broad room) ∙ mul-div_cancel many some
+pub batch_count : (k now : Keying) (size many wide i : ℕ) (bytes : List ℕ) → now ≡ k → size ≡ k.sectorsize → 0 < size → wide ≡ many * size → (i + many) * size ≤ length bytes
+    → length (take wide (drop (i * size) bytes)) / now.sectorsize ≡ many
+batch_count k now size many wide i bytes kept same some broad room =
+    (λ j. batch_length size many wide i bytes broad room j / (ap (λ (h : Keying). h.sectorsize) kept ∙ sym same) j) ∙ mul-div_cancel many some
 
 -- the device sectors of a batch have room in the buffer
-pub batch_fits : (k now : Keying) (size many most wide i width buffer : ℕ) (bytes : List ℕ) → now ≡ k → 0 < size → wide ≡ many * size → (i + many) * size ≤ length bytes
-    → width ≡ 512 * units k → most ≡ buffer / width → many ≤ most → length (take wide (drop (i * size) bytes)) / size * (512 * units now) ≤ buffer
-batch_fits k now size many most wide i width buffer bytes kept some broad room wid is few =
+pub batch_fits : (k now : Keying) (size many most wide i width buffer : ℕ) (bytes : List ℕ) → now ≡ k → size ≡ k.sectorsize → 0 < size → wide ≡ many * size → (i + many) * size ≤ length bytes
+    → width ≡ 512 * units k → most ≡ buffer / width → many ≤ most → length (take wide (drop (i * size) bytes)) / now.sectorsize * (512 * units now) ≤ buffer
+batch_fits k now size many most wide i width buffer bytes kept same some broad room wid is few =
     let whole : most * width ≤ buffer = rw is (div-mul-le_self buffer width) in
     let fits : many * width ≤ most * width = mul-le-mul_right width few in
-    let same : length (take wide (drop (i * size) bytes)) / size * (512 * units now) ≡ many * width = λ j. batch_count size many wide i bytes some broad room j * ((ap (λ (h : Keying). 512 * units h) kept ∙ sym wid) j) in
-    omega (arith, same, whole, fits)
+    let all : length (take wide (drop (i * size) bytes)) / now.sectorsize * (512 * units now) ≡ many * width =
+    λ j. batch_count k now size many wide i bytes kept same some broad room j * ((ap (λ (h : Keying). 512 * units h) kept ∙ sym wid) j) in
+    omega (arith, all, whole, fits)
+
+-- the bytes of the device sectors of all stand at the front of a buffer that has room for them
+pub device_length : (k : Keying) (size rows all : ℕ) (buffer : List ℕ) → size ≡ k.sectorsize → rows ≡ units k → all / k.sectorsize * (512 * units k) ≤ length buffer
+    → length (take (all / size * (512 * rows)) buffer) ≡ all / k.sectorsize * (512 * units k)
+device_length k size rows all buffer same cut room =
+    let bytes : all / size * (512 * rows) ≡ all / k.sectorsize * (512 * units k) = λ j. all / same j * (512 * cut j) in
+    length-take-le (all / size * (512 * rows)) buffer (omega (arith, bytes, room)) ∙ bytes
 
 -- ---- what is read
 

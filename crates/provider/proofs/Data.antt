@@ -377,12 +377,10 @@ refused_within k sector count rows m device same long lt small =
 -- ---- to the disk
 
 -- writing sealed device sectors in ascending order makes the writes of their logical sectors
-pub written : (k : Keying) (sector size rows : ℕ) (from sealed : List ℕ) → rows ≡ units k → size ≡ k.sectorsize → length sealed ≡ length from / size * (512 * units k)
-    → parts 512 (length from / k.sectorsize * units k) sealed ≡ sealed_sectors k sector (length from / k.sectorsize) from → write_events (sector * rows) sealed ≡ data_writes k sector (length from / size) from
-written k sector size rows from sealed same sized long so =
+pub written : (k : Keying) (sector rows : ℕ) (from sealed : List ℕ) → rows ≡ units k → length sealed ≡ length from / k.sectorsize * (512 * units k)
+    → parts 512 (length from / k.sectorsize * units k) sealed ≡ sealed_sectors k sector (length from / k.sectorsize) from → write_events (sector * rows) sealed ≡ data_writes k sector (length from / k.sectorsize) from
+written k sector rows from sealed same long so =
     let count : ℕ = length from / k.sectorsize in
-    let counted : length from / size ≡ count = ap (λ (s : ℕ). length from / s) sized in
     let spread : count * (512 * units k) ≡ 512 * (count * units k) = omega arith in
-    let all : length sealed ≡ count * (512 * units k) = long ∙ ap (λ (n : ℕ). n * (512 * units k)) counted in
-    let many : length sealed / 512 ≡ count * units k = omega (arith, all, spread) in
-    (λ o. writes_from (sector * same o) (parts 512 (many o) sealed)) ∙ ap (writes_from (sector * units k)) so ∙ writes_all k sector count from ∙ ap (λ (n : ℕ). data_writes k sector n from) (sym counted)
+    let many : length sealed / 512 ≡ count * units k = omega (arith, long, spread) in
+    (λ o. writes_from (sector * same o) (parts 512 (many o) sealed)) ∙ ap (writes_from (sector * units k)) so ∙ writes_all k sector count from

@@ -32,12 +32,12 @@ run_writes-start k sector count size bytes =
 -- the writes of a batch, and those of the logical sectors after it
 pub run_writes-some : (k now : Keying) (sector count size many wide : ℕ) (bytes : List ℕ) (i : ℕ) → now ≡ k → size ≡ k.sectorsize → 0 < size → wide ≡ many * size → i + many ≤ count
     → (i + many) * size ≤ length bytes
-    → run_writes k sector count size bytes i ≡ data_writes now (sector + i) (length (take wide (drop (i * size) bytes)) / size) (take wide (drop (i * size) bytes)) ++ run_writes k sector count size bytes (i + many)
+    → run_writes k sector count size bytes i ≡ data_writes now (sector + i) (length (take wide (drop (i * size) bytes)) / now.sectorsize) (take wide (drop (i * size) bytes)) ++ run_writes k sector count size bytes (i + many)
 unfolding run_writes
 run_writes-some k now sector count size many wide bytes i kept same some broad more room =
     let here : List ℕ = drop (i * size) bytes in
     let front : List ℕ = take wide here in
-    let counted : length front / size ≡ many = batch_count size many wide i bytes some broad room in
+    let counted : length front / now.sectorsize ≡ many = batch_count k now size many wide i bytes kept same some broad room in
     let left : count - i ≡ many + (count - (i + many)) = omega arith in
     let at : sector + i + many ≡ sector + (i + many) = omega arith in
     let place : i * size + wide ≡ (i + many) * size = omega (arith, broad) in

@@ -10,7 +10,7 @@
 //! disk back, and no call of it was made.
 //!
 //! Data is sealed into the buffer and then written by as few calls of the disk as the buffer allows. So the buffer
-//! holds sealed bytes only, never plain ones, and needs no clearing.
+//! holds sealed bytes only, never plaintext, and needs no clearing.
 ghost use Rattle.std.specs.Prelude.{◌≡◌, ◌≢◌, ℕ, ◌+◌, ◌*◌, ◌/◌, ◌%◌, ◌^◌, ◌<◌, ◌≤◌, ◌↔◌, ◌∷◌, [], List, IsTrue, OnOk, OnErr, None, Ok, Err, IfErr, IfOk, IfSome, MatchResult, false, is_ok, length, replicate, true};
 ghost use Rattle.block_traits.specs.Causes.{Counted};
 ghost use Rattle.block_traits.specs.Disk.{DiskState, FailsIn, Gives, GivesEach, Logs};
@@ -65,12 +65,12 @@ impl<D: Drop> Model for Provider<D> {
 
 impl<D: Disk> Provider<D> {
     /// Attaches the provider on this disk, whose metadata are `meta`: with the master key of the slot that is named, or
-    /// else of the first slot that `key` opens. It is read-only where `readonly` or the metadata say so.
+    /// else of the first slot that `key` opens. It is read-only if `readonly` or the metadata say so.
     ///
-    /// `params` are those that `check` gave of the metadata, and both gates let this disk and this slot through.
+    /// `params` are those that `check` returned for the metadata, and both gates let this disk and this slot through.
     ///
-    /// The disk comes back with the fault. In this order: `TooSmall`, exactly where the disk has no whole logical
-    /// sector; `WrongKey`, exactly where no slot that is asked for opens; `NoMemory`. No call of the disk is made.
+    /// The disk comes back with the fault. In this order: `TooSmall`, exactly if the disk has no whole logical
+    /// sector; `WrongKey`, exactly if no slot that is asked for opens; `NoMemory`. No call of the disk is made.
     /// The memory that later calls can't do without is reserved here: the keys, and a buffer for the device sectors
     /// of some logical sectors.
     pub fn attach(
@@ -100,9 +100,9 @@ impl<D: Disk> Provider<D> {
     }
 
     /// Attaches the provider on this disk with the master key of a slot that was opened for these parameters. It is
-    /// read-only where `readonly` or the parameters say so.
+    /// read-only if `readonly` or the parameters say so.
     ///
-    /// Where there is no memory the disk comes back. No call of it is made.
+    /// If there is no memory, the disk comes back. No call of it is made.
     pub fn attach_opened(
         alloc: Global,
         disk: D,
@@ -133,7 +133,6 @@ impl<D: Disk> Provider<D> {
         ensures at_most { result ≤ 65536 }
         ensures whole { result % 512 ≡ 0 }
     {
-        self.ring.is_of_a_keying();
         self.ring.layout().size as u32
     }
 
@@ -144,7 +143,7 @@ impl<D: Disk> Provider<D> {
         self.ring.layout().sectors_in(512 * self.disk.sectors())
     }
 
-    /// Whether so many logical sectors from number `sector` on are there.
+    /// Whether the provider has `count` logical sectors from number `sector` on.
     pub fn check_range(&self, sector: u64, count: u64) -> Result<(), OutOfRange>
         ensures answer { let there = media self.now.keying (D.state self.now.disk) in
             MatchResult result (λ _. sector + count ≤ there)
@@ -206,7 +205,7 @@ impl<D: Disk> Provider<D> {
     pub fn is_of_a_keying(&self)
         ensures { IsKeying self.now.keying }
     {
-        self.ring.is_of_a_keying();
+        self.ring.layout();
     }
 
     /// The master key.
@@ -219,10 +218,10 @@ impl<D: Disk> Provider<D> {
     /// Reads logical sectors from number `sector` on into `into`, whose length is a positive multiple of the sector
     /// size.
     ///
-    /// `OutOfRange` comes exactly where the request passes the end, and then no call of the disk is made. Sectors that
-    /// a look doesn't serve are read unit by unit, each opened before the next one is read. The first fault ends the
-    /// request: `DeviceFault` comes only where the device failed and all units before were accepted, and `Integrity`
-    /// exactly where a unit is the first whose tag isn't that of its ciphertext, at the unit's byte offset on the
+    /// `OutOfRange` comes exactly if the request passes the end, and then no call of the disk is made. Sectors that a
+    /// look doesn't serve are read unit by unit, each opened before the next one is read. The first fault ends the
+    /// request. `DeviceFault` comes only if the device failed and all units before were accepted. `Integrity` comes
+    /// exactly if a unit is the first whose tag isn't that of its ciphertext, with the unit's byte offset on the
     /// device. After a refusal `into` is all zeros.
     pub fn read(&mut self, sector: u64, into: &mut [u8]) -> Result<(), ReadFault>
         requires some { 0 < length into.old }
@@ -248,7 +247,7 @@ impl<D: Disk> Provider<D> {
         let size = self.ring.layout().size;
         self.check_range(sector, (into.len() / size) as u64)?;
         let buffer = &mut self.buffer;
-        read_run(&mut self.ring, &mut self.disk, sector, size, into, buffer)
+        read_run(&mut self.ring, &mut self.disk, sector, into, buffer)
     }
 
     /// Counts so many reads of the disk, which a look has served. None of them is made.
@@ -263,10 +262,10 @@ impl<D: Disk> Provider<D> {
     /// Writes logical sectors from number `sector` on, whose plain bytes are `from`; its length is a positive
     /// multiple of the sector size.
     ///
-    /// In this order: `ReadOnly`, exactly where the provider is read-only; `OutOfRange`, exactly where the request
-    /// passes the end; and then no call of the disk is made. `DeviceFault` comes only where the device failed. The
-    /// device sectors of the sealed bytes are written in ascending order, up to the first that fails. Nothing is
-    /// read. The provider stays attached.
+    /// In this order: `ReadOnly`, exactly if the provider is read-only; `OutOfRange`, exactly if the request passes
+    /// the end; and then no call of the disk is made. `DeviceFault` comes only if the device failed. The device
+    /// sectors of the sealed bytes are written in ascending order, up to the first that fails. Nothing is read. The
+    /// provider stays attached.
     pub fn write(&mut self, sector: u64, from: &[u8]) -> Result<(), WriteFault>
         requires some { 0 < length from.now }
         requires whole { length from.now % self.old.keying.sectorsize ≡ 0 }
@@ -280,7 +279,7 @@ impl<D: Disk> Provider<D> {
         let size = self.ring.layout().size;
         self.check_range(sector, (from.len() / size) as u64)?;
         let buffer = &mut self.buffer;
-        if write_run(&mut self.ring, &mut self.disk, sector, size, from, buffer).is_err() {
+        if write_run(&mut self.ring, &mut self.disk, sector, from, buffer).is_err() {
             return Err(WriteFault::DeviceFault);
         }
         Ok(())
@@ -312,8 +311,8 @@ impl<D: Disk> Provider<D> {
     /// Opens logical sectors from number `sector` on into `out`, from the bytes of their device sectors, one after the
     /// other. No call of the disk is made.
     ///
-    /// `BadUnit` comes exactly where the tag of a unit isn't that of its ciphertext, with the byte offset of the
-    /// first one, and `out` is then as it was.
+    /// `BadUnit` comes exactly if the tag of a unit isn't that of its ciphertext, with the byte offset of the first
+    /// such unit, and `out` is then as it was.
     pub fn open_from(&mut self, sector: u64, device: &[u8], out: &mut [u8]) -> Result<(), BadUnit>
         requires whole { length out.old % self.old.keying.sectorsize ≡ 0 }
         requires inside { sector + length out.old / self.old.keying.sectorsize ≤ media self.old.keying (D.state self.old.disk) }
@@ -327,7 +326,7 @@ impl<D: Disk> Provider<D> {
         open_sectors(&mut self.ring, sector, device, out)
     }
 
-    /// Reads device sector `n`, which has a unit of a logical sector. It is refused only where the device failed.
+    /// Reads device sector `n`, which has a unit of a logical sector. It is refused only if the device failed.
     pub fn get_unit(&mut self, n: u64, into: &mut Sector) -> Result<(), DiskFailed>
         requires { n < media self.old.keying (D.state self.old.disk) * units self.old.keying }
         ensures bytes { OnOk result (Gives (D.state self.old.disk) n into.new) }
@@ -339,9 +338,9 @@ impl<D: Disk> Provider<D> {
         self.disk.read(n, into)
     }
 
-    /// Looks at as many device sectors as `into` has room for at once, the first of number `n`, where the disk lets
-    /// that be done. True: `into` has them, and a read of each is counted. False: nothing has changed, and `into` may
-    /// hold any bytes.
+    /// Looks at as many device sectors as `into` has room for at once, the first of number `n`, if the disk lets that
+    /// be done. `true` says that `into` has them and that a read of each is counted. `false` says that nothing has
+    /// changed, and `into` may hold any bytes.
     pub fn look(&mut self, n: u64, into: &mut [u8]) -> bool
         requires whole { length into.old % 512 ≡ 0 }
         requires inside { n + length into.old / 512 ≤ media self.old.keying (D.state self.old.disk) * units self.old.keying }
@@ -369,8 +368,8 @@ impl<D: Disk> Provider<D> {
         judge(&self.ring, n, device)
     }
 
-    /// Writes device sector `n`, which has a unit of a logical sector. It is refused only where the device failed; a
-    /// write that failed was done or wasn't.
+    /// Writes device sector `n`, which has a unit of a logical sector. It is refused only if the device failed. A
+    /// write that failed was either done or not.
     pub fn put_unit(&mut self, n: u64, from: &Sector) -> Result<(), DiskFailed>
         requires { n < media self.old.keying (D.state self.old.disk) * units self.old.keying }
         ensures ok { OnOk result (Logs (Event.Write n from.now ∷ []) (D.state self.old.disk) (D.state self.new.disk)) }

@@ -6,7 +6,7 @@
 //!
 //! Many sectors are first looked at by one call (`peek`). A look that fails, or that finds a wrong tag, has changed
 //! nothing on the disk and counted no read. It doesn't say which unit is at fault, so the sectors are then read unit
-//! by unit, which finds the first one. Disks that refuse every look are always read so.
+//! by unit, which finds the first one. Disks that refuse every look are always read that way.
 //!
 //! After a refusal `into` and `buffer` may hold any bytes; `Provider::read` clears the caller's. A run is cut into
 //! batches that fit the buffer, which has room for the device sectors of one logical sector at least.
@@ -73,27 +73,19 @@ fn read_sector<D: Disk>(
     }
 }
 
-// Looks at logical sectors of `size` bytes all at once, the first of number `sector`, where there is no
-// authentication, and opens them. Where the look says nothing, `into` may hold any bytes, and nothing else has
-// changed.
-fn look_run<D: Disk>(
-    ring: &mut KeyRing,
-    disk: &mut D,
-    sector: u64,
-    size: usize,
-    into: &mut [u8],
-) -> bool
+// Looks at logical sectors without authentication all at once, the first of number `sector`, and opens them. If the
+// look says nothing, `into` may hold any bytes, and nothing else has changed.
+fn look_run<D: Disk>(ring: &mut KeyRing, disk: &mut D, sector: u64, into: &mut [u8]) -> bool
     requires off { ring.old.keying.auth ≡ Off }
-    requires size { size ≡ ring.old.keying.sectorsize }
-    requires whole { length into.old % size ≡ 0 }
-    requires inside { (sector + length into.old / size) * units ring.old.keying ≤ (D.state disk.old).size }
-    ensures asked { result ≡ true → Counted (length into.old / size * units ring.old.keying) (D.state disk.old).reads (D.state disk.new).reads }
+    requires whole { length into.old % ring.old.keying.sectorsize ≡ 0 }
+    requires inside { (sector + length into.old / ring.old.keying.sectorsize) * units ring.old.keying ≤ (D.state disk.old).size }
+    ensures asked { result ≡ true → Counted (length into.old / ring.old.keying.sectorsize * units ring.old.keying) (D.state disk.old).reads (D.state disk.new).reads }
     ensures logs { result ≡ true → Logs [] (D.state disk.old) (D.state disk.new) }
-    ensures reads { result ≡ true → ReadsAs (D.state disk.old) ring.old.keying sector (length into.old / size) (Ok into.new) }
+    ensures reads { result ≡ true → ReadsAs (D.state disk.old) ring.old.keying sector (length into.old / ring.old.keying.sectorsize) (Ok into.new) }
     ensures missed { result ≡ false → D.state disk.new ≡ D.state disk.old }
     ensures keying { ring.new.keying ≡ ring.old.keying }
 {
-    ring.is_of_a_keying();
+    let size = ring.layout().size;
     if !disk.peek(sector * (size / 512) as u64, into) {
         return false;
     }
@@ -102,21 +94,19 @@ fn look_run<D: Disk>(
     true
 }
 
-// Reads logical sectors of `size` bytes, the first of number `sector`, unit by unit.
+// Reads logical sectors, the first of number `sector`, unit by unit.
 fn read_each<D: Disk>(
     ring: &mut KeyRing,
     disk: &mut D,
     sector: u64,
-    size: usize,
     into: &mut [u8],
 ) -> Result<(), ReadFault>
-    requires size { size ≡ ring.old.keying.sectorsize }
-    requires whole { length into.old % size ≡ 0 }
-    requires inside { (sector + length into.old / size) * units ring.old.keying ≤ (D.state disk.old).size }
-    ensures answer { RunAnswers ring.old.keying sector (length into.old / size) (D.state disk.old) (D.state disk.new) into.new result }
+    requires whole { length into.old % ring.old.keying.sectorsize ≡ 0 }
+    requires inside { (sector + length into.old / ring.old.keying.sectorsize) * units ring.old.keying ≤ (D.state disk.old).size }
+    ensures answer { RunAnswers ring.old.keying sector (length into.old / ring.old.keying.sectorsize) (D.state disk.old) (D.state disk.new) into.new result }
     ensures keying { ring.new.keying ≡ ring.old.keying }
 {
-    ring.is_of_a_keying();
+    let size = ring.layout().size;
     for i in 0..into.len() / size {
         let block = &mut into[i * size..i * size + size];
         match read_sector(ring, disk, sector + i as u64, block) {
@@ -127,24 +117,22 @@ fn read_each<D: Disk>(
     Ok(())
 }
 
-// Looks at the device sectors of logical sectors of `size` bytes all at once, the first of number `sector`, and opens
-// them; `device` has those sectors then. Where the look says nothing or a tag differs, `into` and `device` may hold any
-// bytes, and nothing else has changed.
+// Looks at the device sectors of logical sectors all at once, the first of number `sector`, and opens them. Then
+// `device` has those device sectors. If the look says nothing or a tag differs, `into` and `device` may hold any bytes,
+// and nothing else has changed.
 fn look_batch<D: Disk>(
     ring: &mut KeyRing,
     disk: &mut D,
     sector: u64,
-    size: usize,
     into: &mut [u8],
     device: &mut [u8],
 ) -> bool
-    requires size { size ≡ ring.old.keying.sectorsize }
-    requires whole { length into.old % size ≡ 0 }
-    requires device { length device.old ≡ length into.old / size * (512 * units ring.old.keying) }
-    requires inside { (sector + length into.old / size) * units ring.old.keying ≤ (D.state disk.old).size }
-    ensures asked { result ≡ true → Counted (length into.old / size * units ring.old.keying) (D.state disk.old).reads (D.state disk.new).reads }
+    requires whole { length into.old % ring.old.keying.sectorsize ≡ 0 }
+    requires device { length device.old ≡ length into.old / ring.old.keying.sectorsize * (512 * units ring.old.keying) }
+    requires inside { (sector + length into.old / ring.old.keying.sectorsize) * units ring.old.keying ≤ (D.state disk.old).size }
+    ensures asked { result ≡ true → Counted (length into.old / ring.old.keying.sectorsize * units ring.old.keying) (D.state disk.old).reads (D.state disk.new).reads }
     ensures logs { result ≡ true → Logs [] (D.state disk.old) (D.state disk.new) }
-    ensures reads { result ≡ true → ReadsAs (D.state disk.old) ring.old.keying sector (length into.old / size) (Ok into.new) }
+    ensures reads { result ≡ true → ReadsAs (D.state disk.old) ring.old.keying sector (length into.old / ring.old.keying.sectorsize) (Ok into.new) }
     ensures left { result ≡ true → GivesEach (D.state disk.old) (sector * units ring.old.keying) device.new }
     ensures missed { result ≡ false → D.state disk.new ≡ D.state disk.old }
     ensures keying { ring.new.keying ≡ ring.old.keying }
@@ -156,59 +144,56 @@ fn look_batch<D: Disk>(
     if open_sectors(ring, sector, device, into).is_err() {
         return false;
     }
-    disk.count_reads((into.len() / size * units) as u64);
+    disk.count_reads((device.len() / 512) as u64);
     true
 }
 
-// Reads logical sectors of `size` bytes, the first of number `sector`. They are looked at in `buffer`, which has room
-// for the device sectors of them all; where that says nothing, or a tag differs, they are read unit by unit.
+// Reads logical sectors, the first of number `sector`. They are looked at in `buffer`, which has room for the device
+// sectors of them all. If the look says nothing, or a tag differs, they are read unit by unit.
 fn read_batch<D: Disk>(
     ring: &mut KeyRing,
     disk: &mut D,
     sector: u64,
-    size: usize,
     into: &mut [u8],
     buffer: &mut [u8],
 ) -> Result<(), ReadFault>
-    requires size { size ≡ ring.old.keying.sectorsize }
-    requires whole { length into.old % size ≡ 0 }
-    requires buffer { length into.old / size * (512 * units ring.old.keying) ≤ length buffer.old }
-    requires inside { (sector + length into.old / size) * units ring.old.keying ≤ (D.state disk.old).size }
-    ensures answer { RunAnswers ring.old.keying sector (length into.old / size) (D.state disk.old) (D.state disk.new) into.new result }
+    requires whole { length into.old % ring.old.keying.sectorsize ≡ 0 }
+    requires buffer { length into.old / ring.old.keying.sectorsize * (512 * units ring.old.keying) ≤ length buffer.old }
+    requires inside { (sector + length into.old / ring.old.keying.sectorsize) * units ring.old.keying ≤ (D.state disk.old).size }
+    ensures answer { RunAnswers ring.old.keying sector (length into.old / ring.old.keying.sectorsize) (D.state disk.old) (D.state disk.new) into.new result }
     ensures keying { ring.new.keying ≡ ring.old.keying }
 {
-    let units = ring.layout().units;
-    let device = &mut buffer[..into.len() / size * (512 * units)];
-    if look_batch(ring, disk, sector, size, into, device) {
+    let layout = ring.layout();
+    let device = &mut buffer[..into.len() / layout.size * (512 * layout.units)];
+    if look_batch(ring, disk, sector, into, device) {
         return Ok(());
     }
-    read_each(ring, disk, sector, size, into)
+    read_each(ring, disk, sector, into)
 }
 
-// Reads logical sectors of `size` bytes, the first of number `sector`, as many at a time as `buffer` has room for:
-// one at least.
+// Reads logical sectors, the first of number `sector`, as many at a time as `buffer` has room for: one at least.
 fn read_batches<D: Disk>(
     ring: &mut KeyRing,
     disk: &mut D,
     sector: u64,
-    size: usize,
     into: &mut [u8],
     buffer: &mut [u8],
 ) -> Result<(), ReadFault>
-    requires size { size ≡ ring.old.keying.sectorsize }
     requires buffer { 512 * units ring.old.keying ≤ length buffer.old }
-    requires whole { length into.old % size ≡ 0 }
-    requires inside { (sector + length into.old / size) * units ring.old.keying ≤ (D.state disk.old).size }
-    ensures answer { RunAnswers ring.old.keying sector (length into.old / size) (D.state disk.old) (D.state disk.new) into.new result }
+    requires whole { length into.old % ring.old.keying.sectorsize ≡ 0 }
+    requires inside { (sector + length into.old / ring.old.keying.sectorsize) * units ring.old.keying ≤ (D.state disk.old).size }
+    ensures answer { RunAnswers ring.old.keying sector (length into.old / ring.old.keying.sectorsize) (D.state disk.old) (D.state disk.new) into.new result }
     ensures keying { ring.new.keying ≡ ring.old.keying }
 {
-    let most = buffer.len() / (512 * ring.layout().units);
+    let layout = ring.layout();
+    let size = layout.size;
+    let most = buffer.len() / (512 * layout.units);
     let count = into.len() / size;
     let mut done = 0;
     'batches: while done < count {
         let many = most.min(count - done);
         let part = &mut into[done * size..(done + many) * size];
-        match read_batch(ring, disk, sector + done as u64, size, part, buffer) {
+        match read_batch(ring, disk, sector + done as u64, part, buffer) {
             Ok(()) => done += many,
             Err(fault) => return Err(fault),
         }
@@ -216,86 +201,83 @@ fn read_batches<D: Disk>(
     Ok(())
 }
 
-// Reads logical sectors of `size` bytes, the first of number `sector`. Without authentication the disk is looked at
-// for them all at once, and they are opened in place; with it, for as many as `buffer` has room for. What a look
-// doesn't give is read unit by unit.
+// Reads logical sectors, the first of number `sector`. Without authentication the disk is looked at for them all at
+// once, and they are opened in place. With authentication it is looked at for as many as `buffer` has room for. What a
+// look doesn't give is read unit by unit.
 pub fn read_run<D: Disk>(
     ring: &mut KeyRing,
     disk: &mut D,
     sector: u64,
-    size: usize,
     into: &mut [u8],
     buffer: &mut [u8],
 ) -> Result<(), ReadFault>
-    requires size { size ≡ ring.old.keying.sectorsize }
     requires buffer { 512 * units ring.old.keying ≤ length buffer.old }
-    requires whole { length into.old % size ≡ 0 }
-    requires inside { (sector + length into.old / size) * units ring.old.keying ≤ (D.state disk.old).size }
-    ensures answer { RunAnswers ring.old.keying sector (length into.old / size) (D.state disk.old) (D.state disk.new) into.new result }
+    requires whole { length into.old % ring.old.keying.sectorsize ≡ 0 }
+    requires inside { (sector + length into.old / ring.old.keying.sectorsize) * units ring.old.keying ≤ (D.state disk.old).size }
+    ensures answer { RunAnswers ring.old.keying sector (length into.old / ring.old.keying.sectorsize) (D.state disk.old) (D.state disk.new) into.new result }
     ensures keying { ring.new.keying ≡ ring.old.keying }
 {
     if ring.auth() != Auth::Off {
-        return read_batches(ring, disk, sector, size, into, buffer);
+        return read_batches(ring, disk, sector, into, buffer);
     }
-    if look_run(ring, disk, sector, size, into) {
+    if look_run(ring, disk, sector, into) {
         return Ok(());
     }
-    read_each(ring, disk, sector, size, into)
+    read_each(ring, disk, sector, into)
 }
 
-// Writes logical sectors of `size` bytes by one write of the disk, the first to number `sector`. They are sealed in
-// `buffer`, which has room for them all, and what is left there is what was to be written.
+// Writes logical sectors by one write of the disk, the first to number `sector`. They are sealed in `buffer`, which has
+// room for the device sectors of them all, and what is left there is what was to be written.
 fn write_batch<D: Disk>(
     ring: &mut KeyRing,
     disk: &mut D,
     sector: u64,
-    size: usize,
     from: &[u8],
     buffer: &mut [u8],
 ) -> Result<(), DiskFailed>
-    requires size { size ≡ ring.old.keying.sectorsize }
-    requires whole { length from.now % size ≡ 0 }
-    requires buffer { length from.now / size * (512 * units ring.old.keying) ≤ length buffer.old }
-    requires inside { (sector + length from.now / size) * units ring.old.keying ≤ (D.state disk.old).size }
-    ensures ok { OnOk result (Logs (data_writes ring.old.keying sector (length from.now / size) from.now) (D.state disk.old) (D.state disk.new)) }
-    ensures err { OnErr result (FailsIn (data_writes ring.old.keying sector (length from.now / size) from.now) (D.state disk.old) (D.state disk.new)) }
+    requires whole { length from.now % ring.old.keying.sectorsize ≡ 0 }
+    requires buffer { length from.now / ring.old.keying.sectorsize * (512 * units ring.old.keying) ≤ length buffer.old }
+    requires inside { (sector + length from.now / ring.old.keying.sectorsize) * units ring.old.keying ≤ (D.state disk.old).size }
+    ensures ok { OnOk result (Logs (data_writes ring.old.keying sector (length from.now / ring.old.keying.sectorsize) from.now) (D.state disk.old) (D.state disk.new)) }
+    ensures err { OnErr result (FailsIn (data_writes ring.old.keying sector (length from.now / ring.old.keying.sectorsize) from.now) (D.state disk.old) (D.state disk.new)) }
     ensures unasked { (D.state disk.new).reads ≡ (D.state disk.old).reads }
     ensures keying { ring.new.keying ≡ ring.old.keying }
-    ensures left { write_events (sector * units ring.old.keying) (take (length from.now / size * (512 * units ring.old.keying)) buffer.new)
-        ≡ data_writes ring.old.keying sector (length from.now / size) from.now }
+    ensures left { write_events (sector * units ring.old.keying) (take (length from.now / ring.old.keying.sectorsize * (512 * units ring.old.keying)) buffer.new)
+        ≡ data_writes ring.old.keying sector (length from.now / ring.old.keying.sectorsize) from.now }
 {
-    let units = ring.layout().units;
-    let sealed = &mut buffer[..from.len() / size * (512 * units)];
+    let layout = ring.layout();
+    let units = layout.units;
+    let sealed = &mut buffer[..from.len() / layout.size * (512 * units)];
     seal_sectors(ring, sector, from, sealed);
     disk.write_sectors(sector * units as u64, sealed)
 }
 
-// Writes logical sectors of `size` bytes in ascending order, the first to number `sector`. As many as `buffer` has
-// room for are sealed there and go by one write of the disk; it has room for one at least.
+// Writes logical sectors in ascending order, the first to number `sector`. As many as `buffer` has room for are sealed
+// there and go by one write of the disk. It has room for one at least.
 pub fn write_run<D: Disk>(
     ring: &mut KeyRing,
     disk: &mut D,
     sector: u64,
-    size: usize,
     from: &[u8],
     buffer: &mut [u8],
 ) -> Result<(), DiskFailed>
-    requires size { size ≡ ring.old.keying.sectorsize }
     requires buffer { 512 * units ring.old.keying ≤ length buffer.old }
-    requires whole { length from.now % size ≡ 0 }
-    requires inside { (sector + length from.now / size) * units ring.old.keying ≤ (D.state disk.old).size }
-    ensures ok { OnOk result (Logs (data_writes ring.old.keying sector (length from.now / size) from.now) (D.state disk.old) (D.state disk.new)) }
-    ensures err { OnErr result (FailsIn (data_writes ring.old.keying sector (length from.now / size) from.now) (D.state disk.old) (D.state disk.new)) }
+    requires whole { length from.now % ring.old.keying.sectorsize ≡ 0 }
+    requires inside { (sector + length from.now / ring.old.keying.sectorsize) * units ring.old.keying ≤ (D.state disk.old).size }
+    ensures ok { OnOk result (Logs (data_writes ring.old.keying sector (length from.now / ring.old.keying.sectorsize) from.now) (D.state disk.old) (D.state disk.new)) }
+    ensures err { OnErr result (FailsIn (data_writes ring.old.keying sector (length from.now / ring.old.keying.sectorsize) from.now) (D.state disk.old) (D.state disk.new)) }
     ensures unasked { (D.state disk.new).reads ≡ (D.state disk.old).reads }
     ensures keying { ring.new.keying ≡ ring.old.keying }
 {
-    let most = buffer.len() / (512 * ring.layout().units);
+    let layout = ring.layout();
+    let size = layout.size;
+    let most = buffer.len() / (512 * layout.units);
     let count = from.len() / size;
     let mut done = 0;
     'batches: while done < count {
         let many = most.min(count - done);
         let plain = &from[done * size..(done + many) * size];
-        write_batch(ring, disk, sector + done as u64, size, plain, buffer)?;
+        write_batch(ring, disk, sector + done as u64, plain, buffer)?;
         done += many;
     }
     Ok(())

@@ -1,7 +1,6 @@
-use Rattle.std.proofs.Common.{◌≡◌, ◌*◌, ◌/◌, ℕ, Ok, length, subst, sym, ap, ◌∙◌}
+use Rattle.std.proofs.Common.{◌≡◌, ◌*◌, ◌/◌, ℕ, Ok, length, subst, sym, ◌∙◌}
 use Rattle.block_traits.specs.Disk.{GivesEach}
 use Rattle.sealing.specs.Sectors.{units}
-use Rattle.provider.specs.Reading.{ReadsAs}
 use Rattle.provider.proofs.Data.{opened_ok, reads_looked}
 use Rattle.provider.proofs.runs.look_batch.Goals as goal
 
@@ -12,8 +11,7 @@ returns-clause-reads g c = λ _.
     let sector = c.args.sector in
     let device = c.peek.new.into in
     let count : ℕ = length c.args.into.now / k.sectorsize in
-    let counted : length c.args.into.now / c.args.size ≡ count = ap (λ (s : ℕ). length c.args.into.now / s) c.requires.size in
-    let long : length device ≡ count * (512 * units k) = c.peek.auto.into ∙ c.requires.device ∙ ap (λ (n : ℕ). n * (512 * units k)) counted in
+    let long : length device ≡ count * (512 * units k) = c.peek.auto.into ∙ c.requires.device in
     let stand = subst (λ (u : ℕ). GivesEach state (sector * u) device) c.layout-units.ensures.units (c.peek.ensures.stand c.if-not-peek.false) in
     let opened = opened_ok c.open_sectors.result _ _ (sym c.is_err.ensures.value ∙ c.if-is_err.false) c.open_sectors.ensures.opened in
-    subst (λ (n : ℕ). ReadsAs state k sector n (Ok c.open_sectors.new.out)) (sym counted) (reads_looked state.content k sector count device (Ok c.open_sectors.new.out) stand long opened)
+    reads_looked state.content k sector count device (Ok c.open_sectors.new.out) stand long opened

@@ -14,7 +14,7 @@ pub read_batch-requires-clause-buffer : goal.read_batch-requires-clause-buffer
 read_batch-requires-clause-buffer g c =
     let k = c.args.ring.now.keying in
     let into = c.batches.into in
-    let size = c.args.size in
+    let size = c.layout-layout.result.size in
     let done = c.batches.done in
     let many = c.min-many.result in
     let count = length c.args.into.now / size in
@@ -23,16 +23,16 @@ read_batch-requires-clause-buffer g c =
     let room : (done + many) * size ≤ length into = omega (arith, mul-le-mul_right size within, div-mul-le_self (length c.args.into.now) size, c.batches.auto.into) in
     let wide : (done + many) * size - done * size ≡ many * size = omega arith in
     let part : List ℕ = take ((done + many) * size - done * size) (drop (done * size) into) in
-    let fits : length part / size * (512 * units c.batches.ring.keying) ≤ length c.args.buffer.now =
-    batch_fits k c.batches.ring.keying size many _ _ done (512 * c.layout.result.units) (length c.args.buffer.now) into c.batches.invariant.keying some wide room
-    (ap (λ (n : ℕ). 512 * n) c.layout.ensures.units) refl (omega arith) in
+    let fits : length part / c.batches.ring.keying.sectorsize * (512 * units c.batches.ring.keying) ≤ length c.args.buffer.now =
+    batch_fits k c.batches.ring.keying size many _ _ done (512 * c.layout-layout.result.units) (length c.args.buffer.now) into c.batches.invariant.keying c.layout-layout.ensures.size some wide room
+    (ap (λ (n : ℕ). 512 * n) c.layout-layout.ensures.units) refl (omega arith) in
     omega (arith, fits, c.batches.auto.buffer)
 
 pub batches-smaller : goal.batches-smaller
 batches-smaller g c =
     let k = c.args.ring.now.keying in
-    let width : ℕ = 512 * c.layout.result.units in
-    let broad : width ≡ 512 * units k = ap (λ (n : ℕ). 512 * n) c.layout.ensures.units in
+    let width : ℕ = 512 * c.layout-layout.result.units in
+    let broad : width ≡ 512 * units k = ap (λ (n : ℕ). 512 * n) c.layout-layout.ensures.units in
     let one : 1 ≤ length c.args.buffer.now / width = le-div 1 (length c.args.buffer.now) width (omega arith) (omega (arith, broad, c.requires.buffer)) in
     omega (arith, one)
 
@@ -42,7 +42,7 @@ batches-preserved g c =
     let k = c.args.ring.now.keying in
     let before = c.batches.invariant in
     let into = c.batches.into in
-    let size = c.args.size in
+    let size = c.layout-layout.result.size in
     let done = c.batches.done in
     let many = c.min-many.result in
     let count = length c.args.into.now / size in
@@ -50,7 +50,7 @@ batches-preserved g c =
     let within : done + many ≤ count = omega arith in
     let room : (done + many) * size ≤ length into = omega (arith, mul-le-mul_right size within, div-mul-le_self (length c.args.into.now) size, c.batches.auto.into) in
     let wide : (done + many) * size - done * size ≡ many * size = omega arith in
-    let counted = batch_count size many _ done into some wide room in
+    let counted = batch_count k c.batches.ring.keying size many _ done into before.keying c.layout-layout.ensures.size some wide room in
     let start = state c.args.disk.now in
     let middle = state c.batches.disk in
     let last = state c.read_batch.new.disk in
@@ -73,7 +73,7 @@ returns-in-Err-clause-answer g c =
     let k = c.args.ring.now.keying in
     let before = c.batches.invariant in
     let into = c.batches.into in
-    let size = c.args.size in
+    let size = c.layout-layout.result.size in
     let done = c.batches.done in
     let many = c.min-many.result in
     let count = length c.args.into.now / size in
@@ -85,5 +85,6 @@ returns-in-Err-clause-answer g c =
     let middle = state c.batches.disk in
     let last = state c.read_batch.new.disk in
     let A : ℕ → Type 0 = λ n. RunAnswers c.batches.ring.keying (c.args.sector + done) n middle last c.read_batch.new.into (Err c.in-Err.fault) in
-    let answer = subst A (batch_count size many _ done into some wide room) c.in-Err.ensures.answer in
-    batch_fault c.in-Err.fault start middle last k c.batches.ring.keying c.args.sector done many count (take (done * size) into) c.read_batch.new.into c.read_batch.new.into before.keying before.asked before.logs within before.reads answer
+    let answer = subst A (batch_count k c.batches.ring.keying size many _ done into before.keying c.layout-layout.ensures.size some wide room) c.in-Err.ensures.answer in
+    let more = subst (λ (s : ℕ). done + many ≤ length c.args.into.now / s) c.layout-layout.ensures.size within in
+    batch_fault c.in-Err.fault start middle last k c.batches.ring.keying c.args.sector done many (length c.args.into.now / k.sectorsize) (take (done * size) into) c.read_batch.new.into c.read_batch.new.into before.keying before.asked before.logs more before.reads answer

@@ -1,4 +1,4 @@
-use Rattle.std.proofs.Common.{◌≡◌, ◌-◌, ◌≤◌}
+use Rattle.std.proofs.Common.{◌≡◌, ◌-◌, ◌/◌, ◌≤◌, length}
 use Rattle.block_traits.specs.Disk.{Continues}
 use Rattle.provider.specs.Writing.{data_writes}
 use Rattle.provider.proofs.Events.{run_writes}
@@ -13,7 +13,7 @@ invariant-batches g l =
       size : (state l.disk).size ≡ (state l.initial.disk).size;
       unasked : (state l.disk).reads ≡ (state l.initial.disk).reads;
       within : l.done ≤ l.count;
-      events : Continues (run_writes k l.sector l.count l.size l.from l.done) (data_writes k l.sector l.count l.from) (state l.disk) (state l.initial.disk);
+      events : Continues (run_writes k l.sector l.count l.size l.from l.done) (data_writes k l.sector (length l.from / k.sectorsize) l.from) (state l.disk) (state l.initial.disk);
     }
 
 abbrev pub decreases-batches : goal.decreases-batches

@@ -21,8 +21,14 @@ import sys
 
 from whole import ATTACH, PROVIDERS, init, name_of, verb_lines
 
-# Sectors of 512 and 1,024 bytes have fewer than four whole units, so they are sealed in groups of four.
-ROWS = [*PROVIDERS, ("AES-XTS", 128, 512, "SHA512"), ("AES-XTS", 128, 1024, "SHA256")]
+# Tags are computed four at a time. The four are of one logical sector if it has four whole units, so these rows have
+# sectors with fewer (512 and 1,024 bytes), and with too many for four such sectors to be checked at once (8,192).
+ROWS = [
+    *PROVIDERS,
+    ("AES-XTS", 128, 512, "SHA512"),
+    ("AES-XTS", 128, 1024, "SHA256"),
+    ("AES-XTS", 128, 8192, "SHA256"),
+]
 # The plain bytes of a row.
 SIZE = 1 << 18
 CALLGRIND = ["valgrind", "--tool=callgrind", "--callgrind-out-file=/dev/null"]

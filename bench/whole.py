@@ -38,6 +38,7 @@ PROVIDERS = [
     ("AES-XTS", 128, 4096, "SHA384"),
     ("AES-XTS", 128, 4096, "SHA512"),
 ]
+ATTACH = b"attach -p -k key a.img\n"
 C_SIDES = [(mask, chunk) for mask in ("without", "with") for chunk in (512, 131072)]
 
 
@@ -65,28 +66,51 @@ def sweep_lines(count, units_of_sector):
     return f"verify -r a.img place {of_line}\n" + f"verify a.img place {of_line}\n" * (lines - 1)
 
 
+def name_of(provider):
+    """Returns the name of a row."""
+    cipher, bits, size, auth = provider
+    return f"{cipher[-3:].lower()} {bits}, {size}" + (f", HMAC/{auth}" if auth else "")
+
+
+def empty(image, provider, count):
+    """Makes a file with room for so many logical sectors and the metadata."""
+    _, _, size, auth = provider
+    image.unlink(missing_ok=True)
+    with open(image, "wb") as it:
+        it.truncate(count * units(size, auth) * 512 + 4096)
+
+
+def init(program, folder, provider, count):
+    """Makes a provider of so many logical sectors in a.img, by the file `key` alone."""
+    cipher, bits, size, auth = provider
+    empty(folder / "a.img", provider, count)
+    kind = ["-e", cipher, "-l", str(bits), "-s", str(size), *(["-a", "HMAC/" + auth] if auth else [])]
+    words = [program, "init", "-P", "-K", "key", *kind, "a.img"]
+    subprocess.run(words, check=True, cwd=folder, stdout=subprocess.DEVNULL)
+
+
+def verb_lines(provider, count):
+    """Returns each verb that is measured, with the lines of one that goes over so many logical sectors."""
+    _, _, size, auth = provider
+    verbs = [("fill", f"fill a.img 7 0 {count}\n"), ("sum", f"sum a.img 0 {count}\n")]
+    if auth:
+        verbs.append(("verify", sweep_lines(count, units(size, auth))))
+    return [(verb, lines.encode()) for verb, lines in verbs]
+
+
 def measure(program, folder, mib, rounds, provider):
     """Yields, for each verb, the least processor seconds of each side."""
     cipher, bits, size, auth = provider
     count = (mib << 20) // size
-    image = folder / "a.img"
-    for file in (image, folder / "c.img"):
-        file.unlink(missing_ok=True)
-        with open(file, "wb") as it:
-            it.truncate(count * units(size, auth) * 512 + 4096)
-    kind = ["-e", cipher, "-l", str(bits), "-s", str(size), *(["-a", "HMAC/" + auth] if auth else [])]
-    subprocess.run([program, "init", "-P", "-K", "key", *kind, "a.img"], check=True, cwd=folder, stdout=subprocess.DEVNULL)
+    init(program, folder, provider, count)
+    empty(folder / "c.img", provider, count)
     name = f"aes-{bits}-{cipher[-3:].lower()}" + (f"+{auth.lower()}" if auth else "")
-    attach = b"attach -p -k key a.img\n"
-    verbs = [("fill", f"fill a.img 7 0 {count}\n"), ("sum", f"sum a.img 0 {count}\n")]
-    if auth:
-        verbs.append(("verify", sweep_lines(count, units(size, auth))))
-    for verb, line in verbs:
+    for verb, lines in verb_lines(provider, count):
         whole, idle = {}, {}
         for _ in range(rounds):
-            for times, more, size_of_c in ((whole, line.encode(), mib << 20), (idle, b"", 0)):
+            for times, more, size_of_c in ((whole, lines, mib << 20), (idle, b"", 0)):
                 words = [program, "script", "a.img"]
-                times.setdefault("geli", []).append(processor_time(folder, words, attach + more))
+                times.setdefault("geli", []).append(processor_time(folder, words, ATTACH + more))
                 for mask, chunk in C_SIDES:
                     words = ["./whole", verb, name, str(size), "c.img", str(size_of_c), str(chunk)]
                     times.setdefault((mask, chunk), []).append(processor_time(folder, words, mask=mask))
@@ -104,8 +128,7 @@ def main():
     print("| provider | call | geli | C, 512 a call | C, 131,072 | C, 512, AES instructions | C, 131,072, AES instructions |")
     print("|---|---|---|---|---|---|---|")
     for provider in PROVIDERS:
-        cipher, bits, size, auth = provider
-        name = f"{cipher[-3:].lower()} {bits}, {size}" + (f", HMAC/{auth}" if auth else "")
+        name = name_of(provider)
         if rows not in name:
             continue
         for verb, least in measure(program, folder, mib, rounds, provider):
@@ -114,4 +137,5 @@ def main():
             print(f"| {name} | {verb} | {rate['geli']:.0f} | {' | '.join(cells)} |", flush=True)
 
 
-main()
+if __name__ == "__main__":
+    main()

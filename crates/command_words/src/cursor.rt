@@ -33,7 +33,7 @@ impl Piece<'_> {
 
 /// What is left of a line whose words are taken one by one.
 #[derive(Clone, Copy)]
-pub struct Words<'a> {
+pub struct WordsLeft<'a> {
     sep: Sep,
     // The bytes from which no word was taken yet, and where they start.
     rest: &'a [u8],
@@ -46,7 +46,7 @@ pub struct Words<'a> {
     ghost counted: { number ≤ start },
 }
 
-impl<'a> Words<'a> {
+impl<'a> WordsLeft<'a> {
     ghost use Rattle.command_words.specs.Cursor.{seen, left};
     ghost use Rattle.command_words.specs.Words.{words, placed_words, parts_behind};
 
@@ -56,7 +56,7 @@ impl<'a> Words<'a> {
         ensures left { left result ≡ words sep line.now }
         ensures number { result.number ≡ 0 }
     {
-        Words {
+        WordsLeft {
             sep,
             rest: line,
             start: 0,
@@ -67,7 +67,7 @@ impl<'a> Words<'a> {
 
     /// The next word and the words after it.
     #[tactic(auto, using(crate::proofs::WordsLemmas::word_taken))]
-    pub fn split_first(self) -> Option<(Piece<'a>, Words<'a>)>
+    pub fn split_first(self) -> Option<(Piece<'a>, WordsLeft<'a>)>
         ensures words { MatchOption result (left self.entry ≡ [])
             (λ taken. left self.entry ≡ seen taken.0 ∷ left taken.1) }
         ensures number { IfSome result (λ taken. (taken.0.number ≡ self.entry.number) × (taken.1.number ≡ self.entry.number + 1)) }
@@ -113,7 +113,7 @@ impl<'a> Words<'a> {
     }
 
     // What is left after a part of `len` bytes, with the number of the next word.
-    fn behind(self, len: usize, number: u32) -> Words<'a>
+    fn behind(self, len: usize, number: u32) -> WordsLeft<'a>
         requires going { self.ended ≡ false }
         requires inside { len ≤ length self.rest.now }
         requires counted { number ≤ self.start + 1 }
@@ -123,7 +123,7 @@ impl<'a> Words<'a> {
         ensures shorter { length result.rest.now + len ≤ length self.entry.rest.now }
         ensures ended { IsTrue result.ended ⊎ (length result.rest.now < length self.entry.rest.now) }
     {
-        let Words {
+        let WordsLeft {
             sep,
             rest,
             start,
@@ -131,7 +131,7 @@ impl<'a> Words<'a> {
         } = self;
         let start = start + len as u32 + 1;
         if len < rest.len() {
-            return Words {
+            return WordsLeft {
                 sep,
                 rest: &rest[len + 1..],
                 start,
@@ -139,7 +139,7 @@ impl<'a> Words<'a> {
                 ended: false,
             };
         }
-        Words {
+        WordsLeft {
             sep,
             rest: &[],
             start,

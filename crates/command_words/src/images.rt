@@ -37,7 +37,7 @@ impl ImageNames {
 }
 
 /// The line of some words, joined by zero bytes.
-pub fn joined(alloc: Global, words: &[String]) -> Result<Vec<u8>, AllocError>
+pub(crate) fn joined(alloc: Global, words: &[String]) -> Result<Vec<u8>, AllocError>
     ensures { IfOk result (λ line. line.items ≡ line_of (map string_bytes words.now)) }
 {
     let mut line = Vec::new(alloc);
@@ -86,7 +86,7 @@ fn are_images(names: &[String]) -> bool
 }
 
 /// The names after `script`, if the words are that and 1 to 16 different names.
-pub fn script_images(words: &[String]) -> Option<&[String]>
+pub(crate) fn script_images(words: &[String]) -> Option<&[String]>
     ensures { MatchOption result (script_images (map string_bytes words.now) ≡ None)
         (λ names. script_images (map string_bytes words.now) ≡ Some (map string_bytes names.now)) }
 {
@@ -97,7 +97,7 @@ pub fn script_images(words: &[String]) -> Option<&[String]>
 }
 
 /// Copies of names.
-pub fn copied_names(alloc: Global, names: &[String]) -> Result<Vec<String>, NoMemory>
+pub(crate) fn copied_names(alloc: Global, names: &[String]) -> Result<Vec<String>, NoMemory>
     ensures { IfOk result (λ images. map string_bytes images.items ≡ map string_bytes names.now) }
 {
     let mut images = Vec::new(alloc);

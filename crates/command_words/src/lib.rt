@@ -17,8 +17,8 @@ mod verbs;
 mod words;
 
 pub use commands::{Command, JobWords, Usage};
-pub use images::{ImageNames, copied_names, images_of, joined, provider_name, script_images};
-pub use lines::{LINE_LIMIT, command_in, read_line};
+pub use images::{ImageNames, images_of, provider_name};
+pub use lines::{LINE_LIMIT, read_line};
 pub use spans::{KeyWords, Sep, Span, SpanList};
 pub use verbs::{Needs, Traits};
 pub use words::{Words, read_words};

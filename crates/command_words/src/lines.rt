@@ -10,7 +10,7 @@ ghost use Rattle.command_words.specs.Reading.{line_reading, by_verb, settled, is
 ghost use Rattle.command_words.specs.Reading.{excludes_itself, lacks_option, excludes_own, excludes, line_limit};
 
 use crate::commands::{Command, JobWords, Usage};
-use crate::cursor::Words;
+use crate::cursor::WordsLeft;
 use crate::operands::{Operands, take_operands};
 use crate::pass::take_options;
 use crate::settings::Settings;
@@ -220,7 +220,7 @@ fn command(verb: Verb, settings: Settings, operands: Operands) -> Command
 }
 
 // The command of the words after the options of a verb.
-fn settle(verb: Verb, settings: Settings, words: Words) -> Result<Command, Usage>
+fn settle(verb: Verb, settings: Settings, words: WordsLeft) -> Result<Command, Usage>
     ensures { result ≡ settled verb (words.entry.number + length (left words.entry)) settings (left words.entry) }
 {
     let count = words.count();
@@ -243,7 +243,7 @@ fn settle(verb: Verb, settings: Settings, words: Words) -> Result<Command, Usage
 
 // The command of the words after a verb.
 #[tactic(auto, using(crate::proofs::Options::options_taken))]
-fn read_command(verb: Verb, words: Words) -> Result<Command, Usage>
+fn read_command(verb: Verb, words: WordsLeft) -> Result<Command, Usage>
     ensures { result ≡ by_verb (Some verb) (words.entry.number + length (left words.entry)) (left words.entry) }
 {
     let (settings, operands) = take_options(verb, words)?;
@@ -265,7 +265,7 @@ fn read(line: &[u8], sep: Sep) -> Result<Option<Command>, Usage>
     requires { length line.now ≤ line_limit }
     ensures { result ≡ line_reading sep line.now }
 {
-    let Some((name, words)) = Words::new(line, sep).split_first() else {
+    let Some((name, words)) = WordsLeft::new(line, sep).split_first() else {
         return Ok(None);
     };
     if starts_comment(sep, name.bytes) {
@@ -307,7 +307,7 @@ pub fn read_line(line: &[u8], sep: Sep) -> Result<Option<Command>, Usage>
 
 /// The command of a line whose words are separated by zero bytes, if the line has one. A line of more than 300,000
 /// bytes has none.
-pub fn command_in(line: &[u8]) -> Option<Command>
+pub(crate) fn command_in(line: &[u8]) -> Option<Command>
     ensures said { result ≡ command_in line.now }
 
     // The places of the command lie in the line.

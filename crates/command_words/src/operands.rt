@@ -7,7 +7,7 @@ ghost use Rattle.command_words.specs.Operands.{operands_of};
 ghost use Rattle.command_words.specs.Settings.{span_of};
 
 use crate::commands::Usage;
-use crate::cursor::{Piece, Words};
+use crate::cursor::{Piece, WordsLeft};
 use crate::settings::named_file;
 use crate::spans::Span;
 use crate::table::{JobName, Operand};
@@ -113,7 +113,7 @@ impl Operands {
 }
 
 /// Takes the operands of a form from the words.
-pub fn take_operands(form: &[Operand], words: Words) -> Result<Operands, Usage>
+pub fn take_operands(form: &[Operand], words: WordsLeft) -> Result<Operands, Usage>
     ensures { MatchResult result
         (λ operands. taken_operands form.now (left words.entry) (operands_of [] []) ≡ Ok operands)
         (λ usage. taken_operands form.now (left words.entry) (operands_of [] []) ≡ Err usage) }

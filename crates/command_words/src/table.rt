@@ -4,7 +4,7 @@ ghost use Rattle.command_words.specs.Table.{row_seen, name_seen, row_of, named_a
 ghost use Rattle.command_words.specs.Values.{job_name};
 ghost use Rattle.command_words.specs.Cursor.{left};
 
-use crate::cursor::Words;
+use crate::cursor::WordsLeft;
 use Operand::{Digits, FewSectors, File, Job, ManySectors, Provider, Sector, Seed, Tag};
 use Rule::{Free, NeedsOldSize, PassWithIterations, SlotOrAll};
 use Switch::{
@@ -279,7 +279,7 @@ fn is_named(operand: Operand, bytes: &[u8]) -> bool
 }
 
 // Whether the words name the jobs of a form.
-fn are_named(form: &[Operand], words: Words) -> bool
+fn are_named(form: &[Operand], words: WordsLeft) -> bool
     ensures { result ≡ are_named form.now (left words.entry) }
 {
     let mut form = form;
@@ -298,7 +298,7 @@ fn are_named(form: &[Operand], words: Words) -> bool
 }
 
 // The first form that has as many operands as there are words, and whose jobs the words name.
-fn of_words(forms: &'static [&'static [Operand]], words: Words) -> Option<&'static [Operand]>
+fn of_words(forms: &'static [&'static [Operand]], words: WordsLeft) -> Option<&'static [Operand]>
     ensures { MatchOption result
         (of_words (left words.entry) (map (λ form. form.now) forms.now) ≡ None)
         (λ form. of_words (left words.entry) (map (λ form. form.now) forms.now) ≡ Some form.now) }
@@ -356,7 +356,7 @@ impl Verb {
     }
 
     /// The operands as which these words of the verb are read.
-    pub fn operands(self, words: Words) -> Option<&'static [Operand]>
+    pub fn operands(self, words: WordsLeft) -> Option<&'static [Operand]>
         ensures { MatchOption result (form_of self (left words.entry) ≡ None) (λ form. form_of self (left words.entry) ≡ Some form.now) }
     {
         let forms = self.row().forms;

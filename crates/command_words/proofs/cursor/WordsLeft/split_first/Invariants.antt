@@ -1,6 +1,6 @@
 use Rattle.std.proofs.Common.{◌≡◌, ◌+◌, length, cond}
 use Rattle.command_words.specs.Cursor.{left}
-use Rattle.command_words.proofs.cursor.Words.split_first.Given as goal
+use Rattle.command_words.proofs.cursor.WordsLeft.split_first.Given as goal
 
 -- What is left gives the words, and none was taken.
 abbrev pub invariant-loop-words : goal.invariant-loop-words

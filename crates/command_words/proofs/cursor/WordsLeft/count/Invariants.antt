@@ -1,6 +1,6 @@
 use Rattle.std.proofs.Common.{◌≡◌, ◌+◌, length}
 use Rattle.command_words.specs.Cursor.{left}
-use Rattle.command_words.proofs.cursor.Words.count.Given as goal
+use Rattle.command_words.proofs.cursor.WordsLeft.count.Given as goal
 
 -- The words that were taken and those that are left are all.
 abbrev pub invariant-count : goal.invariant-count

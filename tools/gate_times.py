@@ -3,14 +3,16 @@
 
     tools/gate_times.py COMMAND...      as rt ci
 
-A line has processor seconds of a crate's proof, of its tests' proof and of its must-fail edits, the dearest crate first,
-in the form of the table in docs/PERFORMANCE.md. It ends with the command's status.
+A line has processor seconds of a crate's proof, of its tests' proof and of its must-fail edits, and what one of these
+edits took in the mean. The dearest crate comes first, in the form of the table in docs/PERFORMANCE.md. It is started at
+the repository's root and ends with the command's status.
 
 It looks at the running checks every half second, so what a check does in its last half second is lost, and each sum is a
 little too low; the last line has the whole as the system counts it.
 """
 import collections
 import os
+import pathlib
 import resource
 import subprocess
 import sys
@@ -67,6 +69,12 @@ def watch(top, seconds, ended):
         time.sleep(0.5)
 
 
+def print_row(name, row, edits):
+    """Prints the seconds of a crate, or of all, which has this many edits."""
+    each = f"{row['edits'] / edits:,.0f}" if edits else ""
+    print(f"| {name} | {row['proof']:,.0f} | {row['tests']:,.0f} | {row['edits']:,.0f} | {each} | {sum(row.values()):,.0f} |")
+
+
 works = {}
 seconds, ended = {}, threading.Event()
 began = time.time()
@@ -81,10 +89,10 @@ table = collections.defaultdict(lambda: collections.defaultdict(float))
 for key, taken in seconds.items():
     crate, kind = works[key]
     table[crate][kind] += taken
-print("| Crate | Proof | Tests | Edits | Sum |\n|---|---|---|---|---|")
+print("| Crate | Proof | Tests | Edits | Of each edit | Sum |\n|---|---|---|---|---|---|")
 for crate, row in sorted(table.items(), key=lambda it: -sum(it[1].values())):
-    print(f"| `{crate}` | " + " | ".join(f"{row[it]:,.0f}" for it in ("proof", "tests", "edits")) + f" | {sum(row.values()):,.0f} |")
-kinds = [sum(row[it] for row in table.values()) for it in ("proof", "tests", "edits")]
-print("| all | " + " | ".join(f"{it:,.0f}" for it in kinds) + f" | {sum(kinds):,.0f} |")
+    print_row(f"`{crate}`", row, len(list(pathlib.Path("crates", crate, "must-fail").glob("*.edit"))))
+kinds = {it: sum(row[it] for row in table.values()) for it in ("proof", "tests", "edits")}
+print_row("all", kinds, len(list(pathlib.Path("crates").glob("*/must-fail/*.edit"))))
 print(f"{time.time() - began:,.0f} s, with {whole.ru_utime + whole.ru_stime:,.0f} s of processor time, on {os.cpu_count()} processors", flush=True)
 sys.exit(status)

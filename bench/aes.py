@@ -5,9 +5,9 @@
 
 Each row is measured ROUNDS times on all three sides, one after the other; of each side the quickest slice of calls
 counts.
-OpenSSL's libcrypto is called through ctypes, with its schedules kept as ours are, and its tweak or initial vector set for
-each call as ours is given one; what two calls through ctypes cost that do nothing is subtracted. Ends with status 1 where
-the bytes differ.
+OpenSSL's libcrypto is called through ctypes, with its schedules kept as ours are, and its tweak or initialization
+vector set for each call as ours is given one; what two calls through ctypes cost that do nothing is subtracted. Ends
+with status 1 where the bytes differ.
 """
 import ctypes
 import ctypes.util

@@ -1,7 +1,7 @@
 #!/usr/bin/env python3
 """The tables of the tests of cbc_mode and xts_mode.
 
-Keys, initial vectors and tweaks are random, from the seed below. The plaintext of a row is byte
+Keys, initialization vectors and tweaks are random, from the seed below. The plaintext of a row is byte
 i = (7 * i + i / 256) mod 256, for i below its length; the row holds the SHA-256 digest of its
 ciphertext. Long numbers are big-endian.
 """

@@ -2,8 +2,8 @@
 """The constants of the tests of range_keys.
 
 Range keys 0 and 1 of metadata of version 7 without authentication (PLAIN) and with it (TAGGED), and of versions 5 and 6
-whatever the authentication (OLD), each as its front and its back half, and the initial vectors and tag keys of two byte
-offsets, all as big-endian numbers of 128 bits.
+whatever the authentication (OLD), each as its front and its back half, and the initialization vectors and tag keys of
+two byte offsets, all as big-endian numbers of 128 bits.
 
 The master key is the bytes 0 to 127: IV-Key, then Data-Key.
 """

@@ -21,7 +21,7 @@ chained-more key iv p j = ap (chained key iv p) (add-one j)
 pub chained_step : (key iv p b before r : List ℕ) (j : ℕ) → before ≡ chained key iv p j → b ≡ block p j → r ≡ encrypt key (xor b before) → r ≡ chained key iv p (j + 1)
 chained_step key iv p b before r j e eb er = er ∙ (λ i. encrypt key (xor (eb i) (e i))) ∙ sym (chained-more key iv p j)
 
--- the block before block 0 is the initial vector, and that before block j + 1 is block j
+-- the block before block 0 is the initialization vector, and that before block j + 1 is block j
 pub block_before-start : (iv c : List ℕ) → length iv ≡ 16 → block (iv ++ c) 0 ≡ iv
 block_before-start iv c len = take_at iv c 16 len
 

@@ -3,7 +3,7 @@ use Rattle.std.specs.Prelude.{ℕ, zero, suc, ◌+◌, ◌/◌, List, ◌++◌, 
 use Rattle.aes_core.specs.Aes.{xor, encrypt, decrypt}
 use Rattle.aes_core.specs.Blocks.{block, blocks}
 
--- block j - 1 of the ciphertext of p, which for j = 0 is the initial vector
+-- block j - 1 of the ciphertext of p, which for j = 0 is the initialization vector
 unfoldable pub chained : List ℕ → List ℕ → List ℕ → ℕ → List ℕ
 chained key iv p zero = iv
 chained key iv p (suc j) = encrypt key (xor (block p j) (chained key iv p j))

@@ -6,7 +6,7 @@ abbrev pub cbc_example_key : List ℕ
 cbc_example_key =
     0x2B ∷ 0x7E ∷ 0x15 ∷ 0x16 ∷ 0x28 ∷ 0xAE ∷ 0xD2 ∷ 0xA6 ∷ 0xAB ∷ 0xF7 ∷ 0x15 ∷ 0x88 ∷ 0x09 ∷ 0xCF ∷ 0x4F ∷ 0x3C ∷ []
 
--- the initial vector: 0, 1, 2, …
+-- the initialization vector: 0, 1, 2, …
 abbrev pub example_iv : List ℕ
 example_iv = range_with_len 0 16
 

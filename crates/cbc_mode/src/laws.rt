@@ -15,7 +15,7 @@ pub fn cbc_keeps_lengths()
 {}
 
 /// A law: a block of plaintext depends only on the block of ciphertext at its place and on the one before, which for
-/// the first is the initial vector.
+/// the first is the initialization vector.
 pub fn cbc_opens_block_by_block()
     ensures first { (key iv cipher : List ℕ) → IsKeyLength (length key) → length iv ≡ 16 → 16 ≤ length cipher →
         block (cbc_open key iv cipher) 0 ≡ xor (decrypt key (block cipher 0)) iv }

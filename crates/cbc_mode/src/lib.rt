@@ -26,7 +26,7 @@ fn sealed(k: &Schedule, plain: Block, before: Block) -> Block
     out
 }
 
-/// Enciphers whole 16-byte blocks in place, under this key and initial vector. `cbc_open` takes it back.
+/// Enciphers whole 16-byte blocks in place, under this key and initialization vector. `cbc_open` takes it back.
 pub fn cbc_seal(k: &Schedule, iv: &[u8; 16], block: &mut [u8])
     requires { length block.old % 16 ≡ 0 }
     ensures sealed { block.new ≡ cbc_seal k.now iv.now block.old }
@@ -43,7 +43,7 @@ pub fn cbc_seal(k: &Schedule, iv: &[u8; 16], block: &mut [u8])
     k.is_of_a_key();
 }
 
-/// Deciphers whole 16-byte blocks in place, under this key and initial vector.
+/// Deciphers whole 16-byte blocks in place, under this key and initialization vector.
 ///
 /// Each call makes the bit planes of `k`; `cbc_open_sliced` takes them ready made.
 pub fn cbc_open(k: &Schedule, iv: &[u8; 16], block: &mut [u8])
@@ -67,7 +67,7 @@ pub fn cbc_open_sliced(k: &SlicedSchedule, iv: &[u8; 16], block: &mut [u8])
     open_rest(k, &before, &mut block[256 * groups..]);
 }
 
-/// A law: whatever is sealed opens to what it was, under every key and initial vector.
+/// A law: whatever is sealed opens to what it was, under every key and initialization vector.
 pub fn cbc_open_undoes_cbc_seal(key: &[u8], iv: &[u8], plain: &[u8])
     requires key { IsKeyLength (length key.now) }
     requires iv { length iv.now ≡ 16 }

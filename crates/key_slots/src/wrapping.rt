@@ -12,7 +12,7 @@ use user_key::UserKey;
 /// The length of a slot in bytes.
 pub const SLOT_SIZE: usize = 192;
 
-/// The initial vector with which every slot is enciphered.
+/// The initialization vector with which every slot is enciphered.
 pub const ZERO_VECTOR: [u8; 16] = [0; 16];
 
 // The messages from which a user key's two keys are made.

@@ -93,7 +93,7 @@ fn vectors_of_the_standard(rt: HostRuntime) -> Result<(), Fail> {
     Ok(())
 }
 
-// A random key and initial vector, the length of a plaintext, and its ciphertext's digest.
+// A random key and initialization vector, the length of a plaintext, and its ciphertext's digest.
 #[derive(Clone, Copy)]
 struct Row {
     key: [u128; 2],

@@ -1,4 +1,4 @@
-//! Keys, initial vectors and tag keys by offset, and which range keys are kept.
+//! Keys, initialization vectors and tag keys by offset, and which range keys are kept.
 
 use crate::common::{bytes_of, master};
 use aes_core::Schedule;
@@ -247,7 +247,7 @@ fn range_keys_of_older_versions(rt: HostRuntime) -> Result<(), Fail> {
     Ok(())
 }
 
-// An initial vector and the key of a tag, each number big-endian.
+// An initialization vector and the key of a tag, each number big-endian.
 struct Vector {
     offset: u64,
     vector: u128,

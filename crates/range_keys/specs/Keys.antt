@@ -77,7 +77,7 @@ second_key k offset = second_part k.cipher k.keylen (range_key k offset)
 
 -- ---- what else goes by the offset
 
--- the initial vector of CBC: 16 bytes
+-- the initialization vector of CBC: 16 bytes
 abbrev pub iv : Keying → ℕ → List ℕ
 iv k offset = take 16 (sha256 (iv_key k.master ++ le64 offset))
 

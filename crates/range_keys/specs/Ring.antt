@@ -31,9 +31,9 @@ pub record IsKeying (k : Keying) : Type 0 where
   pub whole : k.sectorsize % 512 ≡ 0
 
 -- The fields of a ring fit its parameters and its master key. The layout is that of a logical sector, and the base is
--- the key of which range keys are made. Each kept key is that of its number. What is hashed for an initial vector or a
--- tag key begins with the same bytes at every offset: the hashers hold these, and the prefix begins with those of tag
--- keys.
+-- the key of which range keys are made. Each kept key is that of its number. What is hashed for an initialization
+-- vector or a tag key begins with the same bytes at every offset: the hashers hold these, and the prefix begins with
+-- those of tag keys.
 pub record IsRing (params : Params) (layout : SectorLayout) (master : MasterKey) (base : List ℕ) (kept : LruCache ℕ RangeKey) (of_vectors of_tags : Sha256) (of_four_tags : Prefix) : Type 0 where
   pub cut : IsLayoutOf params.auth params.sectorsize layout
   pub ranges : base ≡ range_base params.version params.auth master.bytes

@@ -70,9 +70,9 @@ pub struct KeyRing {
     range_base: [u8; 64],
     // The range keys that were asked for last.
     keys: KeptKeys,
-    // What initial vectors and the keys of tags are hashed of begins with 64 bytes that are the same at every offset, a
-    // whole block of SHA-256. These hold them, so that they are hashed once; the last one is for the keys of four tags,
-    // which are computed side by side.
+    // What initialization vectors and the keys of tags are hashed of begins with 64 bytes that are the same at every
+    // offset, a whole block of SHA-256. These hold them, so that they are hashed once; the last one is for the keys of
+    // four tags, which are computed side by side.
     vectors: Sha256,
     tags: Sha256,
     four_tags: Prefix,
@@ -153,7 +153,7 @@ impl KeyRing {
         self.keys.cache.len();
     }
 
-    /// The initial vector of AES-CBC at this byte offset.
+    /// The initialization vector of AES-CBC at this byte offset.
     pub fn iv_at(&self, offset: u64) -> [u8; 16]
         ensures { result ≡ iv self.now.keying offset }
     {

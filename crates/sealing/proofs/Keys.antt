@@ -1,4 +1,4 @@
--- The keys and initial vectors of a keying are keys and blocks of bytes, and its codes are as long as tags.
+-- The keys and initialization vectors of a keying are keys and blocks of bytes, and its codes are as long as tags.
 use Rattle.std.proofs.Common.{◌≡◌, ℕ, ◌/◌, ◌⊎◌, inl, inr, List, ◌++◌, length, take, length-take-le, IsTrue, refl, ◌∙◌, arith}
 use Rattle.std.proofs.lemmas.Grind.{common_steps}
 use Rattle.eli_base.specs.Algorithms.{allows_length}

@@ -24,11 +24,11 @@ use Rattle.file_edge.specs.declared.opener.Opener as opener
 use Rattle.file_edge.specs.declared.random_file.RandomFile.{RandomFile}
 use Rattle.image_layers.specs.Images.{AsksPart, IfFileTells, OpensNamed, TellsImage, image_disk_state}
 use Rattle.image_layers.specs.declared.image_disks.ImageDisk.{ImageDisk}
+use Rattle.nbd_negotiation.specs.declared.streams.End.{End}
 use Rattle.nbd_session.specs.Durable.{Survives}
 use Rattle.nbd_session.specs.Lasting.{SurvivesClosed}
 use Rattle.nbd_session.specs.Requests.{Exchange, Side}
 use Rattle.nbd_session.specs.Session.{HasSession}
-use Rattle.nbd_session.specs.declared.streams.End.{End}
 use Rattle.reply_text.specs.Text.{refusal_text}
 use Rattle.nbd_run.specs.Status.{session_status}
 use Rattle.nbd_run.specs.Words.{AsksForNothing, AsksToAttach, attaches_readonly, help_text, usage_line, version_text, wish_of}

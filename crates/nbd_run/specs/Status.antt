@@ -1,7 +1,7 @@
 -- The numbers with which the program exits, and the status of a session.
 use Rattle.std.specs.Prelude.{ℕ, Bool, true, false}
-use Rattle.nbd_session.specs.declared.streams.End.{End}
-use Rattle.nbd_session.specs.declared.streams.End.TheVariants as ends
+use Rattle.nbd_negotiation.specs.declared.streams.End.{End}
+use Rattle.nbd_negotiation.specs.declared.streams.End.TheVariants as ends
 use Rattle.nbd_run.specs.declared.status.Status.{Status}
 use Rattle.nbd_run.specs.declared.status.Status.TheVariants.{Done, SomeRefused, BadWords, ReadFault, WriteFault, NoMemory, Malformed}
 

@@ -3,7 +3,7 @@ ghost use Rattle.std.specs.Prelude.{◌≡◌};
 ghost use Rattle.std.specs.Process.{exit_status};
 ghost use Rattle.nbd_run.specs.Status.{run_number, session_status};
 
-use nbd_session::End;
+use nbd_negotiation::End;
 use std::process::ExitCode;
 
 /// How a run ended. Each status has a number, with which the program exits.

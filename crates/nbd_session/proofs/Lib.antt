@@ -1,6 +1,3 @@
-pub mod Filling
-pub mod Giving
-pub mod Negotiating
 pub mod Preferred
 pub mod Serving
 pub mod Running

@@ -7,15 +7,15 @@ use Rattle.block_traits.specs.Disk.{DiskState}
 use Rattle.block_traits.specs.Streams.{SinkState, SourceState, TookAll}
 use Rattle.provider.specs.Attached.{Attached, IsKept}
 use Rattle.reply_text.proofs.Printing.{TookAll-nothing}
+use Rattle.nbd_negotiation.specs.Streams.{GivesTexts, SourceGave}
+use Rattle.nbd_negotiation.specs.declared.streams.End.{End}
+use Rattle.nbd_negotiation.specs.declared.streams.End.TheVariants.{Closed, ReadFault, WriteFault, Malformed}
+use Rattle.nbd_negotiation.proofs.Filling.{SourceGave-bare, SourceGave-none, SourceGave-then}
+use Rattle.nbd_negotiation.proofs.Giving.{gave-more, gave-part}
 use Rattle.nbd_session.specs.Requests.{Exchange, ServesExchange, ServesExchanges, Side, is_denied, reply_of, side_of}
 use Rattle.nbd_session.specs.Runs.{EndsRun, ServedSoFar, ServesRun}
 use Rattle.nbd_session.specs.Served.{ServesNone, ServesOne, ServesRequest}
 use Rattle.nbd_session.specs.Stops.{exchange_bytes}
-use Rattle.nbd_session.specs.Streams.{GivesTexts, SourceGave}
-use Rattle.nbd_session.specs.declared.streams.End.{End}
-use Rattle.nbd_session.specs.declared.streams.End.TheVariants.{Closed, ReadFault, WriteFault, Malformed}
-use Rattle.nbd_session.proofs.Filling.{SourceGave-bare, SourceGave-none, SourceGave-then}
-use Rattle.nbd_session.proofs.Giving.{gave-more, gave-part}
 
 flat_more : (xs : List Exchange) (x : Exchange) → flat_map exchange_bytes (xs ++ x ∷ []) ≡ flat_map exchange_bytes xs ++ exchange_bytes x
 flat_more xs x = flat_map-append exchange_bytes xs (x ∷ []) ∙ ap (λ (l : List ℕ). flat_map exchange_bytes xs ++ l) (append-nil (exchange_bytes x))

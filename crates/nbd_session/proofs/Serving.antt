@@ -15,13 +15,13 @@ use Rattle.nbd_words.specs.declared.transmission.RequestKind.{RequestKind}
 use Rattle.nbd_words.specs.declared.transmission.RequestKind.TheVariants as kinds
 use Rattle.nbd_words.specs.declared.transmission.ReplyError.{ReplyError}
 use Rattle.nbd_words.specs.declared.transmission.ReplyError.TheVariants.{Done, Failed, Invalid}
+use Rattle.nbd_negotiation.specs.Streams.{Fills, GivesBytes, SourceGave}
+use Rattle.nbd_negotiation.specs.declared.streams.End.{End}
+use Rattle.nbd_negotiation.specs.declared.streams.End.TheVariants.{Closed, ReadFault, WriteFault, Malformed}
+use Rattle.nbd_negotiation.proofs.Filling.{SourceGave-bare, SourceGave-then, fewer, part_filled}
 use Rattle.nbd_session.specs.Requests.{AnswersRead, AnswersWrite, MayRead, ServesKind, Side, denied_by, most, range_of}
 use Rattle.nbd_session.specs.Served.{KindIsServed, ServesNone, ServesRequest, WriteIsCut}
 use Rattle.nbd_session.specs.Stops.{IsCut, LacksBytes, Stops}
-use Rattle.nbd_session.specs.Streams.{Fills, GivesBytes, SourceGave}
-use Rattle.nbd_session.specs.declared.streams.End.{End}
-use Rattle.nbd_session.specs.declared.streams.End.TheVariants.{Closed, ReadFault, WriteFault, Malformed}
-use Rattle.nbd_session.proofs.Filling.{SourceGave-bare, SourceGave-then, fewer, part_filled}
 use borrow.Rule.Slice.PartMut.{mid_of, put_mid, post_of}
 
 -- ---- the room

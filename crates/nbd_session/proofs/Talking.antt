@@ -6,18 +6,18 @@ use Rattle.block_traits.specs.declared.disk.Event.TheVariants.{Flush}
 use Rattle.block_traits.specs.Streams.{SinkState, SourceState}
 use Rattle.nbd_words.specs.Negotiation.{greeting}
 use Rattle.nbd_words.specs.declared.negotiation.Export.{Export}
+use Rattle.nbd_negotiation.specs.Negotiation.{EndsGreeting, Negotiates}
+use Rattle.nbd_negotiation.specs.Options.{answers, option_bytes}
+use Rattle.nbd_negotiation.specs.Streams.{GivesTexts, SourceGave}
+use Rattle.nbd_negotiation.specs.declared.streams.End.{End}
+use Rattle.nbd_negotiation.specs.declared.streams.End.TheVariants.{Closed, ReadFault, WriteFault, Malformed}
+use Rattle.nbd_negotiation.proofs.Filling.{SourceGave-then}
+use Rattle.nbd_negotiation.proofs.Giving.{gave-then}
 use Rattle.nbd_session.specs.Export.{export_for}
-use Rattle.nbd_session.specs.Negotiation.{EndsGreeting, Negotiates}
-use Rattle.nbd_session.specs.Options.{answers, option_bytes}
 use Rattle.nbd_session.specs.Requests.{Exchange, Side, most, reply_of}
 use Rattle.nbd_session.specs.Runs.{EndsRun, ServesRun}
 use Rattle.nbd_session.specs.Session.{FlushesLast, HasSession, Talks}
 use Rattle.nbd_session.specs.Stops.{exchange_bytes}
-use Rattle.nbd_session.specs.Streams.{GivesTexts, SourceGave}
-use Rattle.nbd_session.specs.declared.streams.End.{End}
-use Rattle.nbd_session.specs.declared.streams.End.TheVariants.{Closed, ReadFault, WriteFault, Malformed}
-use Rattle.nbd_session.proofs.Filling.{SourceGave-then}
-use Rattle.nbd_session.proofs.Giving.{gave-then}
 
 -- a session came to no requests
 ended_before : (export : Export) (side : Side) (end : End) (d : DiskState) (source rest : SourceState) (sink after : SinkState) → export ≡ export_for side d most

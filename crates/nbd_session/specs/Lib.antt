@@ -1,8 +1,5 @@
-pub mod Streams
 pub mod Requests
 pub mod Stops
-pub mod Options
-pub mod Negotiation
 pub mod Export
 pub mod Served
 pub mod Runs

@@ -3,11 +3,11 @@ use Rattle.std.specs.Prelude.{◌≡◌, ◌⊎◌, ℕ, ◌<◌, ◌≤◌, Lis
 use Rattle.std.specs.List.{concat, flat_map, list_any}
 use Rattle.block_traits.specs.Disk.{DiskState}
 use Rattle.block_traits.specs.Streams.{SinkState, SourceState, TookAll}
+use Rattle.nbd_negotiation.specs.Streams.{GivesTexts, SourceGave, limit}
+use Rattle.nbd_negotiation.specs.declared.streams.End.{End}
+use Rattle.nbd_negotiation.specs.declared.streams.End.TheVariants.{Closed, ReadFault, WriteFault, Malformed}
 use Rattle.nbd_session.specs.Requests.{Exchange, ServesExchanges, Side, is_denied, reply_of}
 use Rattle.nbd_session.specs.Stops.{Stops, exchange_bytes}
-use Rattle.nbd_session.specs.Streams.{GivesTexts, SourceGave, limit}
-use Rattle.nbd_session.specs.declared.streams.End.{End}
-use Rattle.nbd_session.specs.declared.streams.End.TheVariants.{Closed, ReadFault, WriteFault, Malformed}
 
 -- so many requests were taken, served and answered; and whether one was denied
 pub record ServedSoFar (side : Side) (many : ℕ) (old new : DiskState) (source rest : SourceState) (sink after : SinkState) (denied : Bool) : Type 0 where

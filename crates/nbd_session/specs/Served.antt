@@ -9,11 +9,11 @@ use Rattle.nbd_words.specs.declared.transmission.ReplyError.TheVariants.{Invalid
 use Rattle.nbd_words.specs.declared.transmission.Request.{Request}
 use Rattle.nbd_words.specs.declared.transmission.RequestKind.{RequestKind}
 use Rattle.nbd_words.specs.declared.transmission.RequestKind.TheVariants as kinds
+use Rattle.nbd_negotiation.specs.Streams.{Fills, GivesBytes, SourceGave}
+use Rattle.nbd_negotiation.specs.declared.streams.End.{End}
+use Rattle.nbd_negotiation.specs.declared.streams.End.TheVariants.{Closed, Malformed}
 use Rattle.nbd_session.specs.Requests.{AnswersFlush, AnswersRead, AnswersWrite, Exchange, ServesExchange, Side, is_denied, is_error, most, reply_of, zeros_of}
 use Rattle.nbd_session.specs.Stops.{Stops, exchange_bytes}
-use Rattle.nbd_session.specs.Streams.{Fills, GivesBytes, SourceGave}
-use Rattle.nbd_session.specs.declared.streams.End.{End}
-use Rattle.nbd_session.specs.declared.streams.End.TheVariants.{Closed, Malformed}
 
 -- ---- a request whose head was taken
 

@@ -7,15 +7,15 @@ use Rattle.block_traits.specs.declared.disk.Event.TheVariants.{Flush}
 use Rattle.nbd_words.specs.Negotiation.{greeting}
 use Rattle.nbd_words.specs.declared.negotiation.ClientFlags.{ClientFlags}
 use Rattle.nbd_words.specs.declared.negotiation.Export.{Export}
-use Rattle.nbd_session.specs.Options.{ClientOption, IsClient, LeadTo, answers, option_bytes}
+use Rattle.nbd_negotiation.specs.Options.{ClientOption, IsClient, LeadTo, answers, option_bytes}
+use Rattle.nbd_negotiation.specs.Negotiation.{EndsGreeting, EndsOptions}
+use Rattle.nbd_negotiation.specs.Streams.{GivesTexts, SourceGave}
+use Rattle.nbd_negotiation.specs.declared.negotiation.Outcome.TheVariants.{Serving}
+use Rattle.nbd_negotiation.specs.declared.streams.End.{End}
 use Rattle.nbd_session.specs.Export.{export_for}
 use Rattle.nbd_session.specs.Requests.{Exchange, ServesExchanges, Side, is_denied, most, reply_of}
-use Rattle.nbd_session.specs.Negotiation.{EndsGreeting, EndsOptions}
 use Rattle.nbd_session.specs.Runs.{EndsRun}
 use Rattle.nbd_session.specs.Stops.{exchange_bytes}
-use Rattle.nbd_session.specs.Streams.{GivesTexts, SourceGave}
-use Rattle.nbd_session.specs.declared.negotiation.Outcome.TheVariants.{Serving}
-use Rattle.nbd_session.specs.declared.streams.End.{End}
 
 -- What was taken of a client: the bytes of its flags and what they say of it, its options, its requests that were
 -- served, and the bytes of nothing that could be served.

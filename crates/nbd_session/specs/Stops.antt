@@ -6,9 +6,9 @@ use Rattle.block_traits.specs.Streams.{SourceState}
 use Rattle.nbd_words.specs.Transmission.{request_in, request_kind}
 use Rattle.nbd_words.specs.declared.transmission.Request.{Request}
 use Rattle.nbd_words.specs.declared.transmission.RequestKind.TheVariants as kinds
+use Rattle.nbd_negotiation.specs.declared.streams.End.{End}
+use Rattle.nbd_negotiation.specs.declared.streams.End.TheVariants.{Closed, ReadFault, WriteFault, Malformed}
 use Rattle.nbd_session.specs.Requests.{Exchange, most}
-use Rattle.nbd_session.specs.declared.streams.End.{End}
-use Rattle.nbd_session.specs.declared.streams.End.TheVariants.{Closed, ReadFault, WriteFault, Malformed}
 
 -- the bytes that the client gave for an exchange
 abbrev pub exchange_bytes : Exchange → List ℕ

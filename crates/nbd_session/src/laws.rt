@@ -6,11 +6,11 @@ ghost use Rattle.block_traits.specs.Streams.{SinkState, SourceState};
 ghost use Rattle.block_traits.specs.declared.disk.DiskFailed.{DiskFailed};
 ghost use Rattle.eli_base.specs.Keying.{Keying};
 ghost use Rattle.range_keys.specs.Ring.{IsKeying};
+ghost use Rattle.nbd_negotiation.specs.declared.streams.End.{End};
 ghost use Rattle.nbd_session.specs.Durable.{Survives};
 ghost use Rattle.nbd_session.specs.Lasting.{AttachesLasting, AttachesLastingOrLater, HoldsOrLater, KeepsIn, LastsIn, PartsLastOrLater, ReadsLasting, ReadsLastingOrLater, SurvivesClosed, UnitsLastOrLater};
 ghost use Rattle.nbd_session.specs.Requests.{Exchange, ServesExchanges, Side};
 ghost use Rattle.nbd_session.specs.Session.{HasSession};
-ghost use Rattle.nbd_session.specs.declared.streams.End.{End};
 
 use block_traits::Disk;
 

@@ -3,13 +3,13 @@ ghost use Rattle.std.specs.Prelude.{◌≡◌, ◌+◌, ◌++◌, ◌≤◌, IfS
 ghost use Rattle.provider.specs.Attached.{IsKept};
 ghost use Rattle.byte_ranges.specs.Ranges.{skipped};
 ghost use Rattle.nbd_words.specs.Transmission.{reply_head, request_kind};
+ghost use Rattle.nbd_negotiation.specs.Streams.{GivesBytes};
 ghost use Rattle.nbd_session.specs.Requests.{AnswersFlush, AnswersWrite, HasKnownFlags, HasUnknownFlags, IsIllFormedRequest, IsRefusedRead, IsRefusedWrite, IsWellFormedRequest, MayRead, MayWrite, is_error, range_of, side_of, zeros_of};
 ghost use Rattle.nbd_session.specs.Served.{FlushIsAnswered, KindIsServed, ReadIsAnswered, ServesRequest, WriteIsServed, ZerosAreAnswered};
-ghost use Rattle.nbd_session.specs.Streams.{GivesBytes};
 
-use crate::streams::{End, fill, give_all};
 use block_traits::{Disk, Sink, Source};
 use byte_ranges::{ByteRange, cover_of, has_range, read_range, write_range};
+use nbd_negotiation::{End, fill, give_all};
 use nbd_words::{
     REPLY_HEAD, ReplyError, Request, RequestKind, flags_limit, has_fua, reply_head, request_in,
     request_kind,

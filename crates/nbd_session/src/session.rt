@@ -8,10 +8,9 @@ ghost use Rattle.nbd_session.specs.Runs.{ServesRun};
 ghost use Rattle.nbd_session.specs.Session.{HasSession, Talks};
 
 use crate::export::export_of;
-use crate::negotiation::negotiate;
 use crate::served::{MOST, serve_request};
-use crate::streams::End;
 use block_traits::{Disk, DiskFailed, Sink, Source};
+use nbd_negotiation::{End, negotiate};
 use provider::Provider;
 
 /// The bytes of the room in which a client is served: a reply's head, a request's bytes, and what its first and its

@@ -4,7 +4,7 @@ use crate::vectors::{BY_NAME_WITHOUT_ZEROES, GOING, REPLIES, REQUESTS};
 use block_traits::Event;
 use crash_disk::{CallKind, FailAt, MemDisk, MemSink, MemSource};
 use eli_base::Auth;
-use nbd_session::End;
+use nbd_negotiation::End;
 use std::alloc::Global;
 use std::test::Fail;
 

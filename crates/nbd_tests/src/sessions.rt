@@ -6,7 +6,7 @@ use crate::vectors::{
 use block_traits::Event;
 use crash_disk::{MemDisk, MemSink, MemSource};
 use eli_base::Auth;
-use nbd_session::End;
+use nbd_negotiation::End;
 use provider::Provider;
 use std::alloc::Global;
 use std::test::Fail;

@@ -1,7 +1,7 @@
 use Rattle.std.proofs.Common.{◌∙◌, ℕ, ◌≤◌, List, length, refl, subst, arith}
 use Rattle.nbd_words.specs.Transmission.{reply_head}
 use Rattle.nbd_words.specs.declared.transmission.ReplyError.TheVariants.{Done}
-use Rattle.nbd_session.specs.Streams.{GivesBytes}
+use Rattle.nbd_negotiation.specs.Streams.{GivesBytes}
 use Rattle.nbd_session.proofs.Serving.{given_of}
 use Rattle.nbd_session.proofs.served.give_bytes.Goals as goal
 

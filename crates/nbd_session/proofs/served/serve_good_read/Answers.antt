@@ -1,8 +1,8 @@
 use Rattle.std.proofs.Common.{◌≡◌, ℕ, ◌+◌, ◌-◌, ◌≤◌, ◌++◌, List, [], length, take, drop, subst, arith, ◌∙◌}
 use Rattle.nbd_words.specs.Transmission.{reply_head}
 use Rattle.nbd_words.specs.declared.transmission.ReplyError.TheVariants.{Done, Failed}
+use Rattle.nbd_negotiation.specs.Streams.{GivesBytes}
 use Rattle.nbd_session.specs.Requests.{side_of}
-use Rattle.nbd_session.specs.Streams.{GivesBytes}
 use Rattle.nbd_session.proofs.Serving.{gives-bare, many_of, read_bytes, read_done, read_failed}
 use Rattle.nbd_session.proofs.served.serve_good_read.Goals as goal
 

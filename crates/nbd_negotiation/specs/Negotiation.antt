@@ -9,12 +9,12 @@ use Rattle.nbd_words.specs.Negotiation.{client_flags_in, greeting, option_head_i
 use Rattle.nbd_words.specs.declared.negotiation.ClientFlags.{ClientFlags}
 use Rattle.nbd_words.specs.declared.negotiation.Export.{Export}
 use Rattle.nbd_words.specs.declared.negotiation.OptionHead.{OptionHead}
-use Rattle.nbd_session.specs.Options.{ClientOption, IsClient, IsOption, LeadTo, answer, answers, is_taken, option_bytes, outcome}
-use Rattle.nbd_session.specs.Streams.{GivesOn, SourceGave, limit}
-use Rattle.nbd_session.specs.declared.negotiation.Outcome.{Outcome}
-use Rattle.nbd_session.specs.declared.negotiation.Outcome.TheVariants.{More, Serving, Ending}
-use Rattle.nbd_session.specs.declared.streams.End.{End}
-use Rattle.nbd_session.specs.declared.streams.End.TheVariants.{Closed, ReadFault, WriteFault, Malformed}
+use Rattle.nbd_negotiation.specs.Options.{ClientOption, IsClient, IsOption, LeadTo, answer, answers, is_taken, option_bytes, outcome}
+use Rattle.nbd_negotiation.specs.Streams.{GivesOn, SourceGave, limit}
+use Rattle.nbd_negotiation.specs.declared.negotiation.Outcome.{Outcome}
+use Rattle.nbd_negotiation.specs.declared.negotiation.Outcome.TheVariants.{More, Serving, Ending}
+use Rattle.nbd_negotiation.specs.declared.streams.End.{End}
+use Rattle.nbd_negotiation.specs.declared.streams.End.TheVariants.{Closed, ReadFault, WriteFault, Malformed}
 
 -- ---- the client's flags
 

@@ -1,7 +1,7 @@
 //! What a client asks for before it is served.
 ghost use Rattle.std.specs.Prelude.{◌≡◌, ◌≤◌, length};
-ghost use Rattle.nbd_session.specs.Options.{is_export_name, is_taken, outcome_by};
-ghost use Rattle.nbd_session.specs.Negotiation.{AnswersOption, AnswersRun, Negotiates, TakesClient};
+ghost use Rattle.nbd_negotiation.specs.Options.{is_export_name, is_taken, outcome_by};
+ghost use Rattle.nbd_negotiation.specs.Negotiation.{AnswersOption, AnswersRun, Negotiates, TakesClient};
 
 use crate::answers::give_answer;
 use crate::streams::{End, fill, give_all};
@@ -22,7 +22,8 @@ pub enum Outcome {
     Ending,
 }
 
-/// Greets a client and replies to its options, until it wants the export to be served, under any name.
+/// Greets a client and replies to its options, until it wants the export to be served, under any name. An error says
+/// why it isn't to be served. The room has at least 16,384 bytes, the most that an option may have as data.
 pub fn negotiate<S: Source, K: Sink>(
     input: &mut S,
     output: &mut K,

@@ -1,7 +1,7 @@
 //! The replies to options.
 ghost use Rattle.std.specs.Prelude.{◌≡◌};
-ghost use Rattle.nbd_session.specs.Options.{answer_by, bare_reply, info_answer, list_answer, listed, plain_answer, told};
-ghost use Rattle.nbd_session.specs.Streams.{GivesBytes};
+ghost use Rattle.nbd_negotiation.specs.Options.{answer_by, bare_reply, info_answer, list_answer, listed, plain_answer, told};
+ghost use Rattle.nbd_negotiation.specs.Streams.{GivesBytes};
 
 use crate::streams::{End, give_all};
 use block_traits::Sink;

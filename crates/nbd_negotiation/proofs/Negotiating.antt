@@ -13,15 +13,15 @@ use Rattle.nbd_words.specs.declared.negotiation.Export.{Export}
 use Rattle.nbd_words.specs.declared.negotiation.OptionHead.{OptionHead}
 use Rattle.nbd_words.specs.declared.negotiation.OptionKind.{OptionKind}
 use Rattle.nbd_words.specs.declared.negotiation.OptionReply.TheVariants as replies
-use Rattle.nbd_session.specs.Negotiation.{AnsweredSoFar, AnswersOne, AnswersOption, AnswersRun, EndsGreeting, EndsOptions, GivesAnswer, IsOptionCut, LacksData, LeadOn, Negotiates, StaysUnknown, StopsOptions, TakesClient}
-use Rattle.nbd_session.specs.Options.{ClientOption, IsOption, LeadTo, answer, answer_by, answers, bare_reply, info_answer, is_taken, option_bytes, outcome, outcome_by, told}
-use Rattle.nbd_session.specs.Streams.{Fills, GivesBytes, GivesOn, GivesTexts, SourceGave}
-use Rattle.nbd_session.specs.declared.negotiation.Outcome.{Outcome}
-use Rattle.nbd_session.specs.declared.negotiation.Outcome.TheVariants.{More, Serving, Ending}
-use Rattle.nbd_session.specs.declared.streams.End.{End}
-use Rattle.nbd_session.specs.declared.streams.End.TheVariants.{Closed, ReadFault, WriteFault, Malformed}
-use Rattle.nbd_session.proofs.Filling.{SourceGave-bare, SourceGave-none, SourceGave-then, fewer, part_filled}
-use Rattle.nbd_session.proofs.Giving.{gave-alone, gave-first, gave-more, gave-on, gave-part}
+use Rattle.nbd_negotiation.specs.Negotiation.{AnsweredSoFar, AnswersOne, AnswersOption, AnswersRun, EndsGreeting, EndsOptions, GivesAnswer, IsOptionCut, LacksData, LeadOn, Negotiates, StaysUnknown, StopsOptions, TakesClient}
+use Rattle.nbd_negotiation.specs.Options.{ClientOption, IsOption, LeadTo, answer, answer_by, answers, bare_reply, info_answer, is_taken, option_bytes, outcome, outcome_by, told}
+use Rattle.nbd_negotiation.specs.Streams.{Fills, GivesBytes, GivesOn, GivesTexts, SourceGave}
+use Rattle.nbd_negotiation.specs.declared.negotiation.Outcome.{Outcome}
+use Rattle.nbd_negotiation.specs.declared.negotiation.Outcome.TheVariants.{More, Serving, Ending}
+use Rattle.nbd_negotiation.specs.declared.streams.End.{End}
+use Rattle.nbd_negotiation.specs.declared.streams.End.TheVariants.{Closed, ReadFault, WriteFault, Malformed}
+use Rattle.nbd_negotiation.proofs.Filling.{SourceGave-bare, SourceGave-none, SourceGave-then, fewer, part_filled}
+use Rattle.nbd_negotiation.proofs.Giving.{gave-alone, gave-first, gave-more, gave-on, gave-part}
 
 -- ---- one option
 

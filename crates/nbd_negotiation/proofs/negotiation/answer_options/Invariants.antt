@@ -1,6 +1,6 @@
 use Rattle.std.proofs.Common.{◌≤◌, ◌-◌, ◌^◌, length}
-use Rattle.nbd_session.specs.Negotiation.{AnsweredSoFar}
-use Rattle.nbd_session.proofs.negotiation.answer_options.Given as goal
+use Rattle.nbd_negotiation.specs.Negotiation.{AnsweredSoFar}
+use Rattle.nbd_negotiation.proofs.negotiation.answer_options.Given as goal
 
 abbrev pub invariant-many : goal.invariant-many
 invariant-many g l =

@@ -1,9 +1,9 @@
 use Rattle.std.proofs.Common.{◌∙◌, ℕ, List, Err, ap, subst}
 use Rattle.std.proofs.lemmas.Result.{err_from_is_err_and}
 use Rattle.block_traits.specs.Streams.{TookAll}
-use Rattle.nbd_session.specs.Streams.{GivesBytes}
-use Rattle.nbd_session.proofs.Negotiating.{negotiated, no_client_known, no_greeting}
-use Rattle.nbd_session.proofs.negotiation.negotiate.Goals as goal
+use Rattle.nbd_negotiation.specs.Streams.{GivesBytes}
+use Rattle.nbd_negotiation.proofs.Negotiating.{negotiated, no_client_known, no_greeting}
+use Rattle.nbd_negotiation.proofs.negotiation.negotiate.Goals as goal
 
 pub returns-in_err-give_all : goal.returns-in_err-give_all
 returns-in_err-give_all g c =

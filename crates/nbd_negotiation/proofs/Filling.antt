@@ -4,9 +4,9 @@ use Rattle.std.proofs.Math.Seq.{take-append-add}
 use Rattle.std.proofs.lemmas.List.{take-append-le}
 use Rattle.std.specs.Io.KnownBytes.{prepend_known}
 use Rattle.block_traits.specs.Streams.{SourceState}
-use Rattle.nbd_session.specs.Streams.{Fills, GavePart, SourceGave}
-use Rattle.nbd_session.specs.declared.streams.End.{End}
-use Rattle.nbd_session.specs.declared.streams.End.TheVariants.{Closed, ReadFault, WriteFault, Malformed}
+use Rattle.nbd_negotiation.specs.Streams.{Fills, GavePart, SourceGave}
+use Rattle.nbd_negotiation.specs.declared.streams.End.{End}
+use Rattle.nbd_negotiation.specs.declared.streams.End.TheVariants.{Closed, ReadFault, WriteFault, Malformed}
 use borrow.Rule.Slice.PartMut.{put_mid, post_of}
 
 prepend_known-more : (first second : List ℕ) (known : Option (List ℕ)) → prepend_known first (prepend_known second known) ≡ prepend_known (first ++ second) known

@@ -1,8 +1,8 @@
 use Rattle.std.proofs.Common.{◌∙◌, Err, ap, sym}
 use Rattle.std.proofs.lemmas.Result.{err_from_is_err_and}
-use Rattle.nbd_session.specs.Options.{ClientOption}
-use Rattle.nbd_session.proofs.Negotiating.{answer_cut, answer_given, many_data, no_data, no_head, one_answered}
-use Rattle.nbd_session.proofs.negotiation.answer_option.Goals as goal
+use Rattle.nbd_negotiation.specs.Options.{ClientOption}
+use Rattle.nbd_negotiation.proofs.Negotiating.{answer_cut, answer_given, many_data, no_data, no_head, one_answered}
+use Rattle.nbd_negotiation.proofs.negotiation.answer_option.Goals as goal
 
 pub returns-in_err-fill : goal.returns-in_err-fill
 returns-in_err-fill g c =

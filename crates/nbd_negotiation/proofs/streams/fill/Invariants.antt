@@ -1,6 +1,6 @@
 use Rattle.std.proofs.Common.{◌≤◌, ◌-◌, length, take}
-use Rattle.nbd_session.specs.Streams.{SourceGave}
-use Rattle.nbd_session.proofs.streams.fill.Given as goal
+use Rattle.nbd_negotiation.specs.Streams.{SourceGave}
+use Rattle.nbd_negotiation.proofs.streams.fill.Given as goal
 
 abbrev pub invariant-taken : goal.invariant-taken
 invariant-taken g l =

@@ -4,8 +4,8 @@ use Rattle.std.specs.List.{concat}
 use Rattle.std.specs.Io.KnownBytes.{IsAtEnd, prepend_known}
 use Rattle.block_traits.specs.Causes.{Rose}
 use Rattle.block_traits.specs.Streams.{SinkState, SourceState, TookAll, TookPart}
-use Rattle.nbd_session.specs.declared.streams.End.{End}
-use Rattle.nbd_session.specs.declared.streams.End.TheVariants.{Closed, ReadFault, WriteFault, Malformed}
+use Rattle.nbd_negotiation.specs.declared.streams.End.{End}
+use Rattle.nbd_negotiation.specs.declared.streams.End.TheVariants.{Closed, ReadFault, WriteFault, Malformed}
 
 -- how many options, and how many requests, a session takes at most
 abbrev pub limit : ℕ

@@ -1,6 +1,6 @@
 use Rattle.std.proofs.Common.{◌≤◌, ℕ, sym, subst}
-use Rattle.nbd_session.proofs.Negotiating.{next_answered, options_end, wants_end, wants_service}
-use Rattle.nbd_session.proofs.negotiation.answer_options.Goals as goal
+use Rattle.nbd_negotiation.proofs.Negotiating.{next_answered, options_end, wants_end, wants_service}
+use Rattle.nbd_negotiation.proofs.negotiation.answer_options.Goals as goal
 
 pub many-preserved : goal.many-preserved
 many-preserved g c = record {

@@ -1,7 +1,7 @@
 use Rattle.std.proofs.Common.{◌∙◌, ℕ, List, sym, subst}
-use Rattle.nbd_session.specs.Streams.{GivesBytes}
-use Rattle.nbd_session.proofs.Negotiating.{info_fits}
-use Rattle.nbd_session.proofs.answers.give_info.Goals as goal
+use Rattle.nbd_negotiation.specs.Streams.{GivesBytes}
+use Rattle.nbd_negotiation.proofs.Negotiating.{info_fits}
+use Rattle.nbd_negotiation.proofs.answers.give_info.Goals as goal
 
 pub returns : goal.returns
 returns g c =

@@ -1,7 +1,7 @@
 use Rattle.std.proofs.Common.{◌≡◌, ℕ, ◌-◌, length, arith}
-use Rattle.nbd_session.proofs.Filling.{SourceGave-then, take-filled}
+use Rattle.nbd_negotiation.proofs.Filling.{SourceGave-then, take-filled}
 use borrow.Rule.Slice.PartMut.{mid_of, same_len_mid}
-use Rattle.nbd_session.proofs.streams.fill.Goals as goal
+use Rattle.nbd_negotiation.proofs.streams.fill.Goals as goal
 
 pub taken-preserved : goal.taken-preserved
 taken-preserved g c =

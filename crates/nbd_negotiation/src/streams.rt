@@ -1,5 +1,5 @@
 //! Bytes of a known number from a source, and all bytes to a sink.
-ghost use Rattle.nbd_session.specs.Streams.{Fills, GivesBytes};
+ghost use Rattle.nbd_negotiation.specs.Streams.{Fills, GivesBytes};
 
 use block_traits::{Sink, Source};
 use reply_text::write_text;
@@ -17,7 +17,8 @@ pub enum End {
     Malformed,
 }
 
-/// Fills `into` with the next bytes of a source. `Closed`: the source ended before that.
+/// Fills `into` with the next bytes of a source. `Closed`: the source ended before that. `ReadFault`: it failed before.
+/// What was taken stands at the front of `into`, after an error too.
 pub fn fill<S: Source>(input: &mut S, into: &mut [u8]) -> Result<(), End>
     ensures { Fills into.new (S.state input.old) result (S.state input.new) }
 {
@@ -32,7 +33,7 @@ pub fn fill<S: Source>(input: &mut S, into: &mut [u8]) -> Result<(), End>
     Ok(())
 }
 
-/// Gives all bytes to a sink.
+/// Gives all bytes to a sink. `WriteFault`: the sink failed; what it took are the first of them, if any.
 pub fn give_all<K: Sink>(bytes: &[u8], output: &mut K) -> Result<(), End>
     ensures { GivesBytes bytes.now (K.state output.old) result (K.state output.new) }
 {

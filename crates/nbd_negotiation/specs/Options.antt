@@ -9,8 +9,8 @@ use Rattle.nbd_words.specs.declared.negotiation.OptionKind.{OptionKind}
 use Rattle.nbd_words.specs.declared.negotiation.OptionKind.TheVariants as kinds
 use Rattle.nbd_words.specs.declared.negotiation.OptionReply.{OptionReply}
 use Rattle.nbd_words.specs.declared.negotiation.OptionReply.TheVariants as replies
-use Rattle.nbd_session.specs.declared.negotiation.Outcome.{Outcome}
-use Rattle.nbd_session.specs.declared.negotiation.Outcome.TheVariants.{More, Serving, Ending}
+use Rattle.nbd_negotiation.specs.declared.negotiation.Outcome.{Outcome}
+use Rattle.nbd_negotiation.specs.declared.negotiation.Outcome.TheVariants.{More, Serving, Ending}
 
 -- ---- who asks
 

@@ -45,10 +45,9 @@ fn read_whole<D: Disk>(
     ensures err { OnErr result (FailsAmong (units ring.old.keying) (D.state disk.old) (D.state disk.new)) }
     ensures keying { ring.new.keying ≡ ring.old.keying }
 {
-    ring.is_of_a_keying();
-    let size = block.len() as u64;
-    read_units(disk, sector * (size / 512), block)?;
-    open_plain(ring, sector * size, block);
+    let layout = ring.layout();
+    read_units(disk, sector * layout.units as u64, block)?;
+    open_plain(ring, sector * layout.size as u64, block);
     Ok(())
 }
 

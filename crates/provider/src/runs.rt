@@ -84,8 +84,8 @@ fn look_run<D: Disk>(ring: &mut KeyRing, disk: &mut D, sector: u64, into: &mut [
     ensures missed { result ≡ false → D.state disk.new ≡ D.state disk.old }
     ensures keying { ring.new.keying ≡ ring.old.keying }
 {
-    let size = ring.layout().size;
-    if !disk.peek(sector * (size / 512) as u64, into) {
+    let units = ring.layout().units;
+    if !disk.peek(sector * units as u64, into) {
         return false;
     }
     disk.count_reads((into.len() / 512) as u64);

@@ -45,10 +45,9 @@ fn read_whole<D: Disk>(
     ensures err { OnErr result (FailsAmong (units ring.old.keying) (D.state disk.old) (D.state disk.new)) }
     ensures keying { ring.new.keying ≡ ring.old.keying }
 {
-    ring.is_of_a_keying();
-    let size = block.len() as u64;
-    read_units(disk, sector * (size / 512), block)?;
-    open_plain(ring, sector * size, block);
+    let layout = ring.layout();
+    read_units(disk, sector * layout.units as u64, block)?;
+    open_plain(ring, sector * layout.size as u64, block);
     Ok(())
 }
 
@@ -85,8 +84,8 @@ fn look_run<D: Disk>(ring: &mut KeyRing, disk: &mut D, sector: u64, into: &mut [
     ensures missed { result ≡ false → D.state disk.new ≡ D.state disk.old }
     ensures keying { ring.new.keying ≡ ring.old.keying }
 {
-    let size = ring.layout().size;
-    if !disk.peek(sector * (size / 512) as u64, into) {
+    let units = ring.layout().units;
+    if !disk.peek(sector * units as u64, into) {
         return false;
     }
     disk.count_reads((into.len() / 512) as u64);

@@ -84,9 +84,9 @@ fn seal_whole(ring: &mut KeyRing, sector: u64, plain: &[u8], out: &mut [u8])
     ensures sealed { device_sectors ring.old.keying out.new ≡ seal ring.old.keying sector plain.now }
     ensures keying { ring.new.keying ≡ ring.old.keying }
 {
-    ring.is_of_a_keying();
+    let size = ring.layout().size;
     out.copy_from_slice(plain);
-    seal_plain(ring, sector * plain.len() as u64, out);
+    seal_plain(ring, sector * size as u64, out);
 }
 
 /// Seals one logical sector into as many device sectors as it takes.

@@ -1,32 +1,23 @@
-use Rattle.std.proofs.Common.{◌≡◌, ◌+◌, ◌-◌, ◌*◌, ◌/◌, ◌<◌, ◌≤◌, ℕ, List, [], length, take, drop, subst, refl, ap, ◌∙◌, arith, Ok, Err}
-use Rattle.std.proofs.Math.Nat.{div-mul-le_self, mul-le-mul_right}
+use Rattle.std.proofs.Common.{◌≡◌, ◌+◌, ◌-◌, ◌*◌, ◌/◌, ◌≤◌, ℕ, [], length, take, subst, ap, ◌∙◌, arith, Ok, Err}
 use Rattle.std.proofs.lemmas.Nat.{le-div}
-use Rattle.block_traits.specs.Causes.{Counted}
 use Rattle.block_traits.proofs.Causes.{Counted-then}
 use Rattle.block_traits.proofs.Logs.{Logs-then, content-Logs}
-use Rattle.eli_base.specs.Keying.{Keying}
 use Rattle.sealing.specs.Sectors.{units}
 use Rattle.provider.specs.Reads.{RunAnswers}
-use Rattle.provider.proofs.Batches.{batch_count, batch_fault, batch_fits, batch_length, batch_reads}
+use Rattle.provider.proofs.Batches.{IsBatch, batch_answer, batch_fault, batch_fits, batch_here, batch_length, batch_reads}
+use Rattle.provider.proofs.runs.read_batches.Given as given
 use Rattle.provider.proofs.runs.read_batches.Goals as goal
+use Rattle.provider.proofs.runs.read_batches.Goals.{After-min-many}
+
+-- the batch that is read next
+next : (g : given.Over) (c : After-min-many g) → let size = c.layout-layout.result.size in let done = c.batches.done in let many = c.min-many.result in
+    IsBatch c.args.ring.now.keying c.batches.ring.keying size (length c.args.into.now / size) many ((done + many) * size - done * size) done c.batches.into
+next g c = batch_here c.batches.invariant.keying c.layout-layout.ensures.size (omega arith) (omega arith) c.batches.auto.into
 
 pub read_batch-requires-clause-buffer : goal.read_batch-requires-clause-buffer
 read_batch-requires-clause-buffer g c =
-    let k = c.args.ring.now.keying in
-    let into = c.batches.into in
-    let size = c.layout-layout.result.size in
-    let done = c.batches.done in
-    let many = c.min-many.result in
-    let count = length c.args.into.now / size in
-    let some : 0 < size = omega arith in
-    let within : done + many ≤ count = omega arith in
-    let room : (done + many) * size ≤ length into = omega (arith, mul-le-mul_right size within, div-mul-le_self (length c.args.into.now) size, c.batches.auto.into) in
-    let wide : (done + many) * size - done * size ≡ many * size = omega arith in
-    let part : List ℕ = take ((done + many) * size - done * size) (drop (done * size) into) in
-    let fits : length part / c.batches.ring.keying.sectorsize * (512 * units c.batches.ring.keying) ≤ length c.args.buffer.now =
-    batch_fits k c.batches.ring.keying size many _ _ done (512 * c.layout-layout.result.units) (length c.args.buffer.now) into c.batches.invariant.keying c.layout-layout.ensures.size some wide room
-    (ap (λ (n : ℕ). 512 * n) c.layout-layout.ensures.units) refl (omega arith) in
-    omega (arith, fits, c.batches.auto.buffer)
+    let batch = next g (goal.at.read_batch-requires-clause-buffer g c).After-min-many in
+    omega (arith, batch_fits batch c.layout-layout.result.units (length c.args.buffer.now) c.layout-layout.ensures.units (omega arith), c.batches.auto.buffer)
 
 pub batches-smaller : goal.batches-smaller
 batches-smaller g c =
@@ -41,50 +32,31 @@ batches-preserved g c =
     let state = g.D.Disk.state in
     let k = c.args.ring.now.keying in
     let before = c.batches.invariant in
-    let into = c.batches.into in
-    let size = c.layout-layout.result.size in
     let done = c.batches.done in
     let many = c.min-many.result in
-    let count = length c.args.into.now / size in
-    let some : 0 < size = omega arith in
-    let within : done + many ≤ count = omega arith in
-    let room : (done + many) * size ≤ length into = omega (arith, mul-le-mul_right size within, div-mul-le_self (length c.args.into.now) size, c.batches.auto.into) in
-    let wide : (done + many) * size - done * size ≡ many * size = omega arith in
-    let counted = batch_count k c.batches.ring.keying size many _ done into before.keying c.layout-layout.ensures.size some wide room in
+    let batch = next g (goal.at.batches-preserved g c).After-min-many in
     let start = state c.args.disk.now in
     let middle = state c.batches.disk in
-    let last = state c.read_batch.new.disk in
     let block = c.read_batch.new.into in
-    let A : ℕ → Type 0 = λ n. RunAnswers c.batches.ring.keying (c.args.sector + done) n middle last block (Ok tt) in
-    let B : Keying → Type 0 = λ h. Counted (many * units h) middle.reads last.reads in
-    let answer = subst A counted c.in-Ok.ensures.answer in
-    let long : length block ≡ many * size = omega (arith, c.read_batch.auto.into, batch_length size many _ done into wide room) in
+    let answer = batch_answer batch middle (state c.read_batch.new.disk) c.args.sector block (Ok tt) c.in-Ok.ensures.answer in
     record {
       keying = c.in-Ok.ensures.keying ∙ before.keying;
-      within = within;
-      asked = Counted-then (done * units k) (many * units k) ((done + many) * units k) (omega arith) before.asked (subst B before.keying answer.0);
+      within = batch.within;
+      asked = Counted-then (done * units k) (many * units k) ((done + many) * units k) (omega arith) before.asked answer.0;
       logs = Logs-then [] [] before.logs answer.1;
-      reads = batch_reads start.content middle.content k c.batches.ring.keying c.args.sector done many size _ into block before.keying (content-Logs start middle before.logs) long (omega (arith, room)) before.reads answer.2;
+      reads = batch_reads batch start.content middle.content c.args.sector block (content-Logs start middle before.logs) (c.read_batch.auto.into ∙ batch_length batch) before.reads answer.2;
     }
 
 pub returns-in-Err-clause-answer : goal.returns-in-Err-clause-answer
 returns-in-Err-clause-answer g c =
     let state = g.D.Disk.state in
-    let k = c.args.ring.now.keying in
     let before = c.batches.invariant in
-    let into = c.batches.into in
-    let size = c.layout-layout.result.size in
-    let done = c.batches.done in
-    let many = c.min-many.result in
-    let count = length c.args.into.now / size in
-    let some : 0 < size = omega arith in
-    let within : done + many ≤ count = omega arith in
-    let room : (done + many) * size ≤ length into = omega (arith, mul-le-mul_right size within, div-mul-le_self (length c.args.into.now) size, c.batches.auto.into) in
-    let wide : (done + many) * size - done * size ≡ many * size = omega arith in
+    let batch = next g (goal.at.returns-in-Err-clause-answer g c).After-min-many in
     let start = state c.args.disk.now in
     let middle = state c.batches.disk in
     let last = state c.read_batch.new.disk in
-    let A : ℕ → Type 0 = λ n. RunAnswers c.batches.ring.keying (c.args.sector + done) n middle last c.read_batch.new.into (Err c.in-Err.fault) in
-    let answer = subst A (batch_count k c.batches.ring.keying size many _ done into before.keying c.layout-layout.ensures.size some wide room) c.in-Err.ensures.answer in
-    let more = subst (λ (s : ℕ). done + many ≤ length c.args.into.now / s) c.layout-layout.ensures.size within in
-    batch_fault c.in-Err.fault start middle last k c.batches.ring.keying c.args.sector done many (length c.args.into.now / k.sectorsize) (take (done * size) into) c.read_batch.new.into c.read_batch.new.into before.keying before.asked before.logs more before.reads answer
+    let block = c.read_batch.new.into in
+    let P : ℕ → Type 0 = λ s. RunAnswers c.args.ring.now.keying c.args.sector (length c.args.into.now / s) start last block (Err c.in-Err.fault) in
+    let answer = batch_answer batch middle last c.args.sector block (Err c.in-Err.fault) c.in-Err.ensures.answer in
+    subst P c.layout-layout.ensures.size
+    (batch_fault batch c.in-Err.fault start middle last c.args.sector (take (c.batches.done * c.layout-layout.result.size) c.batches.into) block block before.asked before.logs before.reads answer)

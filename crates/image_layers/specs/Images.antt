@@ -186,7 +186,12 @@ module _ {O : Type 0} (log_of : O → Option (List Asked)) (changes : Bool) wher
     pub asked : AsksFiles files old next
     pub behind : Then next new
 
-  -- the first of the files of these images are asked for, one after another, and nothing else
+  -- all files of the images before one of these are asked for, one after another, and then the first of that one's;
+  -- nothing else is
+  abbrev pub AsksUpTo : List (List ℕ) → O → O → Type 0
+  AsksUpTo [] old new = ⊥
+  AsksUpTo (name ∷ names) old new = AsksPart name old new ⊎ AsksAll name (λ next new. AsksUpTo names next new) old new
+
+  -- nothing is asked for, or the first of the files of these images, one after another, and nothing else
   abbrev pub AsksFirst : List (List ℕ) → O → O → Type 0
-  AsksFirst [] old new = log_of new ≡ log_of old
-  AsksFirst (name ∷ names) old new = (log_of new ≡ log_of old) ⊎ (AsksPart name old new ⊎ AsksAll name (λ next new. AsksFirst names next new) old new)
+  AsksFirst names old new = (log_of new ≡ log_of old) ⊎ AsksUpTo names old new

@@ -1,9 +1,8 @@
-//! What opens the images that the words of the command line name, and the run of the words over them.
+//! The run of the words of the command line over the images that they name.
 #![tactic(auto)]
 
 mod exit;
 mod laws;
-mod opening;
 mod run;
 
 pub use exit::exit_code;

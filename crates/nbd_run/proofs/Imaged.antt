@@ -18,7 +18,7 @@ use Rattle.file_edge.specs.declared.found.FileId.{FileId}
 use Rattle.file_edge.specs.declared.image_file.ImageFile as image_file
 use Rattle.file_edge.specs.declared.opener.Opener as opener
 use Rattle.file_edge.specs.declared.random_file.RandomFile.{RandomFile}
-use Rattle.image_layers.proofs.Opened.{images_stay}
+use Rattle.image_layers.proofs.Images.{opened_told}
 use Rattle.image_layers.specs.Images.{OpensNamed, TellsImage, image_disk_state}
 use Rattle.image_layers.specs.declared.image_disks.ImageDisk.{ImageDisk}
 use Rattle.nbd_session.specs.Requests.{side_of}
@@ -61,18 +61,18 @@ module _ {O F : Type 0} {g : Ghosts (FileDisk F)} (o : opener.Ghosts O F) (f : i
     (disk : ImageDisk F g) (files : List FileId) (random : RandomFile F) (cabinet : CabinetState) (entropy : EntropyState) (wish : wish_of words ≡ Other) (asks : AsksToAttach words name line command)
     (opens : OpensNamed o f (not (attaches_readonly command)) (name ∷ []) (disk ∷ []) files random before opened) (tells : TellsImage f.told disk)
     (cabinet_is : cabinet ≡ new_cabinet files (o.told opened)) (entropy_is : entropy ≡ new_entropy (left_in f.left random.device)) where
-  -- names have what they had
-  stays : o.told opens.between ≡ o.told before
-  stays = images_stay o f (not (attaches_readonly command)) (name ∷ []) (disk ∷ []) _ _ opens.images
+  -- names have what they had, and the random bytes are those that were reported
+  told : (o.told opened ≡ o.told before) × IsRandom (o.told before) (left_in f.left random.device)
+  told = opened_told o f (not (attaches_readonly command)) (name ∷ []) (disk ∷ []) files random before opened opens
 
   asked : OpensAsked g o f words before
-  asked = record { name = name; line = line; command = command; asks = asks; disk = disk; files = files; random = random; opened = opened; opens = opens; telling = tells; device = subst (λ (told : Option NamedFiles). IsRandom told (left_in f.left random.device)) stays opens.left }
+  asked = record { name = name; line = line; command = command; asks = asks; disk = disk; files = files; random = random; opened = opened; opens = opens; telling = tells; device = told.1 }
 
   -- a row from what was opened is one from what was reported
   from_told : (answer : answers.Answer) (new : Reach) → Serves line command (reach_of (image_disk_state disk) Idle cabinet entropy) answer new → Serves line command (begins g o f asked) answer new
   unfolding asked
   from_told answer new row =
-      let same : cabinet ≡ new_cabinet files (o.told before) = cabinet_is ∙ ap (λ (t : Option NamedFiles). new_cabinet files t) (opens.told ∙ stays) in
+      let same : cabinet ≡ new_cabinet files (o.told before) = cabinet_is ∙ ap (λ (t : Option NamedFiles). new_cabinet files t) told.0 in
       subst (λ (c : CabinetState). Serves line command (reach_of (image_disk_state disk) Idle c (new_entropy (left_in f.left random.device))) answer new) same
       (subst (λ (e : EntropyState). Serves line command (reach_of (image_disk_state disk) Idle cabinet e) answer new) entropy_is row)
 

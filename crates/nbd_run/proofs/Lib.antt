@@ -1,3 +1,4 @@
 pub mod Attached
 pub mod Ended
 pub mod Imaged
+mod One

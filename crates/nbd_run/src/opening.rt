@@ -1,16 +1,16 @@
 //! The image is opened, and then the random bytes.
 ghost use Rattle.std.specs.Prelude.{◌≡◌, ◌∷◌, [], IfErr, IfOk, not, string_bytes};
 ghost use Rattle.file_edge.specs.FileCabinet.{new_cabinet};
-ghost use Rattle.file_edge.specs.Names.{IsRandom};
 ghost use Rattle.file_edge.specs.RandomFile.{left_in, new_entropy};
 ghost use Rattle.image_layers.specs.Images.{AsksPart, OpensNamed, TellsImage};
 ghost use Rattle.nbd_run.specs.Words.{attaches_readonly};
 
 use crate::words::{Asked, is_read_only};
 use block_traits::{Cabinet, Disk, Entropy, NoMemory};
-use file_edge::{FileCabinet, FileDisk, FileId, ImageFile, Opener, RandomFile};
-use image_layers::{ImageDisk, open_image};
+use file_edge::{FileCabinet, FileDisk, ImageFile, Opener, RandomFile};
+use image_layers::{ImageDisk, open_all};
 use std::alloc::Global;
+use std::slice;
 
 /// What is opened: the disk of the image, the files beside it, and the random bytes.
 #[derive(Drop)]
@@ -23,40 +23,8 @@ where
     pub(crate) entropy: RandomFile<O::File>,
 }
 
-// Opens the image of a name, to be changed or not, and then the random bytes; no call was made of what is handed out.
-// If there was no memory the opener comes back, and names have what they had.
-fn open_named<O: Opener + Drop>(
-    alloc: Global,
-    opener: O,
-    changes: bool,
-    name: &str,
-) -> Result<Opened<O>, (O, NoMemory)>
-    ensures opens { IfOk result (λ opened. OpensNamed (⟦<O as Opener>⟧) (⟦<O::File as ImageFile>⟧)
-        changes (name.now ∷ []) (opened.disk ∷ []) opened.files.images.items opened.entropy opener opened.files.opener) }
-    ensures tells { IfOk result (λ opened. TellsImage O.File.told opened.disk) }
-    ensures files { IfOk result (λ opened. (⟦<FileCabinet<O> as Cabinet>⟧).state opened.files
-        ≡ new_cabinet opened.files.images.items (O.told opened.files.opener)) }
-    ensures random { IfOk result (λ opened. (⟦<RandomFile<O::File> as Entropy>⟧).state opened.entropy
-        ≡ new_entropy (left_in O.File.left opened.entropy.device)) }
-    ensures told { IfErr result (λ refused. O.told refused.0 ≡ O.told opener) }
-    ensures asked_part { IfErr result (λ refused. AsksPart O.asked changes name.now opener refused.0) }
-{
-    let mut opener = opener;
-    let mut images: Vec<FileId> = Vec::new(alloc);
-    match open_image(alloc, &mut opener, &mut images, changes, name) {
-        Ok(disk) => {
-            let entropy = RandomFile::open(&mut opener);
-            Ok(Opened {
-                disk,
-                files: FileCabinet::new(opener, images),
-                entropy,
-            })
-        }
-        Err(fault) => Err((opener, fault)),
-    }
-}
-
-/// Opens the image that is asked for, to be changed unless it is attached read-only, and the random bytes.
+/// Opens the image that is asked for, to be changed unless it is attached read-only, and then the random bytes; no call
+/// was made of what is handed out. If there was no memory the opener comes back, and names have what they had.
 pub(crate) fn open_asked<O: Opener + Drop>(
     alloc: Global,
     opener: O,
@@ -75,5 +43,16 @@ pub(crate) fn open_asked<O: Opener + Drop>(
         (string_bytes asked.now.name) opener refused.0) }
 {
     let changes = !is_read_only(&asked.command);
-    open_named(alloc, opener, changes, asked.name.as_str())
+    let names = slice::from_ref(&asked.name);
+    let image_layers::Opened {
+        mut disks,
+        files,
+        entropy,
+    } = open_all(alloc, opener, changes, names)?;
+    let disk = disks.remove(0);
+    Ok(Opened {
+        disk,
+        files,
+        entropy,
+    })
 }

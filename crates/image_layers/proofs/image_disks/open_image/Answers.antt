@@ -1,5 +1,5 @@
 use Rattle.image_layers.specs.Images.{opening}
-use Rattle.image_layers.proofs.Opened.{any_refusal, join_asked, joined, plain_asked, rest_asked}
+use Rattle.image_layers.proofs.Images.{any_refusal, join_asked, joined, plain_asked, rest_asked}
 use Rattle.image_layers.proofs.image_disks.open_image.Goals as goal
 
 pub returns-in-Err-clause-asked_part : goal.returns-in-Err-clause-asked_part

@@ -1,7 +1,7 @@
 use Rattle.std.proofs.Common.{◌≡◌, [], take}
 use Rattle.std.specs.Prelude.{All, map, string_bytes}
 use Rattle.image_layers.specs.Images.{OpensImages, TellsImage, opening}
-use Rattle.image_run.proofs.opening.open_images.Given as goal
+use Rattle.image_layers.proofs.opening.open_images.Given as goal
 
 -- the images of the first names were opened, each disk of a file alone reports what that file reports, nothing else was
 -- asked, and names have what they had

@@ -2,10 +2,9 @@ use Rattle.std.proofs.Common.{◌≡◌, ◌∙◌, ℕ, List, [], get_or, map, 
 use Rattle.std.specs.Prelude.{string_bytes}
 use Rattle.std.proofs.lemmas.List.{map_more}
 use Rattle.std.proofs.lemmas.List.Elements.{All-push}
-use Rattle.image_run.proofs.Images.{names_at}
-use Rattle.image_layers.proofs.Opened.{first_asked, image_part, one_more}
-use Rattle.image_layers.specs.Images.{AsksFirst, AsksPart, OpensImageDisk, TellsImage, opening}
-use Rattle.image_run.proofs.opening.open_images.Goals as goal
+use Rattle.image_layers.proofs.Images.{first_asked, image_part, names_at, one_more}
+use Rattle.image_layers.specs.Images.{AsksPart, AsksUpTo, OpensImageDisk, TellsImage, opening}
+use Rattle.image_layers.proofs.opening.open_images.Goals as goal
 
 pub loop-name-preserved : goal.loop-name-preserved
 loop-name-preserved g c =
@@ -28,7 +27,7 @@ returns-in_err-open_image-clause-asked_part g c =
     let here : get_or c.args.names.now c.loop-name.name-index c.name-item.result ≡ c.name-item.result = search (rules, c.name-item.is) in
     let names = names_at string_bytes c.args.names.now c.loop-name.name-index c.name-item.result c.loop-name-test.true here in
     let P : List ℕ → Type 0 = λ name. AsksPart g.O.Opener.asked c.args.changes name c.loop-name.opener c.open_image.new.opener in
-    let Q : List (List ℕ) → Type 0 = λ names. AsksFirst g.O.Opener.asked c.args.changes names c.args.opener.now c.open_image.new.opener in
+    let Q : List (List ℕ) → Type 0 = λ names. AsksUpTo g.O.Opener.asked c.args.changes names c.args.opener.now c.open_image.new.opener in
     let asked = subst Q (sym names) (first_asked g.O.Opener g.O.File.ImageFile c.args.changes
     (map string_bytes (take c.loop-name.name-index c.args.names.now)) (string_bytes c.name-item.result) (map string_bytes (drop (c.loop-name.name-index + 1) c.args.names.now)) c.loop-name.disks.items
     (opening c.args.opener.now []) (opening c.loop-name.opener c.loop-name.files.items) c.open_image.new.opener c.loop-name.invariant.opens (subst P c.as_str.ensures.value c.in_err-open_image.ensures.asked_part)) in
@@ -43,7 +42,7 @@ returns-in_err-push-clause-asked_part g c =
     let new = opening c.open_image.new.opener c.open_image.new.files.items in
     let P : List ℕ → Type 0 = λ name. AsksPart g.O.Opener.asked c.args.changes name c.loop-name.opener c.open_image.new.opener in
     let part = image_part g.O.Opener g.O.File.ImageFile c.args.changes _ disk middle new c.in_ok-open_image.ensures.opens in
-    let Q : List (List ℕ) → Type 0 = λ names. AsksFirst g.O.Opener.asked c.args.changes names c.args.opener.now c.open_image.new.opener in
+    let Q : List (List ℕ) → Type 0 = λ names. AsksUpTo g.O.Opener.asked c.args.changes names c.args.opener.now c.open_image.new.opener in
     let asked = subst Q (sym names) (first_asked g.O.Opener g.O.File.ImageFile c.args.changes
     (map string_bytes (take c.loop-name.name-index c.args.names.now)) (string_bytes c.name-item.result) (map string_bytes (drop (c.loop-name.name-index + 1) c.args.names.now)) c.loop-name.disks.items
     (opening c.args.opener.now []) middle c.open_image.new.opener c.loop-name.invariant.opens (subst P c.as_str.ensures.value part)) in

@@ -1,15 +1,20 @@
--- The disk of an image, from the disks of its files; and what was asked if there was no memory.
-use Rattle.std.proofs.Common.{◌∙◌, ◌≡◌, ◌⊎◌, inl, inr, refl, subst, sym, ap, ℕ, suc, List, [], ◌∷◌, ◌++◌, length, Bool, Option, Result}
-use Rattle.std.proofs.Common.{Ok, Err, OnErr, le_refl, take_all}
+-- The disk of an image, from the disks of its files; what was asked if there was no memory; and what a run begins with.
+use Rattle.std.proofs.Common.{◌∙◌, ◌≡◌, ◌⊎◌, inl, inr, refl, subst, sym, ap, ℕ, suc, ◌+◌, ◌<◌, List, [], ◌∷◌, ◌++◌, length, Bool, Option, Result}
+use Rattle.std.proofs.Common.{Ok, Err, OnErr, drop, get_or, le_refl, map, take, take_all}
+use Rattle.std.proofs.lemmas.List.{map-append, map_more, take-append-drop}
 use Rattle.block_traits.specs.declared.disk.Disk.{Ghosts}
 use Rattle.file_edge.specs.Asked.{Asked}
 use Rattle.file_edge.specs.FileDisk.{AsksDisk}
+use Rattle.file_edge.specs.Names.{IsRandom, NamedFiles}
+use Rattle.file_edge.specs.RandomFile.{left_in}
 use Rattle.file_edge.specs.declared.file_disk.FileDisk.{FileDisk}
+use Rattle.file_edge.specs.declared.found.FileId.{FileId}
 use Rattle.file_edge.specs.declared.image_file.ImageFile as image_file
 use Rattle.file_edge.specs.declared.opener.Opener as opener
+use Rattle.file_edge.specs.declared.random_file.RandomFile.{RandomFile}
 use Rattle.image_layers.specs.declared.image_disks.ImageDisk.{ImageDisk}
 use Rattle.image_layers.specs.declared.image_disks.ImageDisk.TheVariants.{Plain, Behind, Join}
-use Rattle.image_layers.specs.Images.{AsksFiles, AsksFirst, AsksFor, AsksPart, IsBehindOf, IsJoinOf, IsPlain, JoinsOrIsNone, Opening, OpensBoth, OpensImageDisk, OpensImages, OpensJoin}
+use Rattle.image_layers.specs.Images.{AsksFiles, AsksFor, AsksPart, AsksUpTo, IsBehindOf, IsJoinOf, IsPlain, JoinsOrIsNone, Opening, OpensBoth, OpensImageDisk, OpensImages, OpensJoin, OpensNamed}
 
 -- the files of an image that was opened
 record Asks {O : Type 0} (log_of : O → Option (List Asked)) (changes : Bool) (name : List ℕ) (old new : O) : Type 0 where
@@ -53,15 +58,15 @@ module _ {O F : Type 0} {g : Ghosts (FileDisk F)} (o : opener.Ghosts O F) (f : i
 
   -- these images were opened, and of the next a part was asked for
   pub first_asked : (done : List (List ℕ)) (name : List ℕ) (rest : List (List ℕ)) (disks : List (ImageDisk F g)) (old middle : Opening O) (new : O) → OpensImages o f changes done disks old middle
-      → AsksPart o.asked changes name middle.opener new → AsksFirst o.asked changes ((done ++ name ∷ []) ++ rest) old.opener new
+      → AsksPart o.asked changes name middle.opener new → AsksUpTo o.asked changes ((done ++ name ∷ []) ++ rest) old.opener new
   first_asked [] name rest [] old middle new is part =
       let P : Opening O → Type 0 = λ begun. AsksPart o.asked changes name begun.opener new in
-      inr (inl (subst P is part))
+      inl (subst P is part)
   first_asked [] name rest (d ∷ disks) old middle new are part = absurd are
   first_asked (n ∷ done) name rest [] old middle new are part = absurd are
   first_asked (n ∷ done) name rest (d ∷ disks) old middle new are part =
       let asks = asks_image n d old are.0 are.1 in
-      inr (inr (record { files = asks.files; own = asks.own; next = are.0.opener; asked = asks.asked; behind = first_asked done name rest disks are.0 middle new are.2 part }))
+      inr (record { files = asks.files; own = asks.own; next = are.0.opener; asked = asks.asked; behind = first_asked done name rest disks are.0 middle new are.2 part })
 
   -- names have what they had
   image_stays : (name : List ℕ) (image : ImageDisk F g) (old new : Opening O) → Image name image old new → o.told new.opener ≡ o.told old.opener
@@ -93,10 +98,20 @@ module _ {O F : Type 0} {g : Ghosts (FileDisk F)} (o : opener.Ghosts O F) (f : i
   as_many (n ∷ names) [] old new are = absurd are
   as_many (n ∷ names) (d ∷ disks) old new are = ap suc (as_many names disks are.0 new are.2)
 
--- nothing is asked
-pub nothing_asked : {O : Type 0} (log_of : O → Option (List Asked)) (changes : Bool) (names : List (List ℕ)) (old new : O) → log_of new ≡ log_of old → AsksFirst log_of changes names old new
-nothing_asked log_of changes [] old new same = same
-nothing_asked log_of changes (name ∷ names) old new same = inl same
+  -- names have what they had before the images were opened, and the random bytes are those that were reported then
+  pub opened_told : (names : List (List ℕ)) (disks : List (ImageDisk F g)) (files : List FileId) (random : RandomFile F) (old new : O)
+      → OpensNamed o f changes names disks files random old new → (o.told new ≡ o.told old) × IsRandom (o.told old) (left_in f.left random.device)
+  opened_told names disks files random old new opens =
+      let stays = images_stay names disks _ _ opens.images in
+      let P : Option NamedFiles → Type 0 = λ told. IsRandom told (left_in f.left random.device) in
+      (opens.told ∙ stays, subst P stays opens.left)
+
+-- the names up to a place, the one there, and those after it
+pub names_at : {S : Type 0} (bytes : S → List ℕ) (names : List S) (i : ℕ) (name : S) → i < length names → get_or names i name ≡ name
+    → map bytes names ≡ (map bytes (take i names) ++ bytes name ∷ []) ++ map bytes (drop (i + 1) names)
+names_at bytes names i name inside here =
+    ap (map bytes) (sym (take-append-drop (i + 1) names)) ∙ map-append bytes (take (i + 1) names) (drop (i + 1) names)
+    ∙ ap (λ (l : List (List ℕ)). l ++ map bytes (drop (i + 1) names)) (map_more bytes names i name inside ∙ ap (λ n. map bytes (take i names) ++ bytes n ∷ []) here)
 
 -- ---- a name of one file, and of two
 

@@ -73,7 +73,10 @@ fn take_letters(settings: &mut Settings, verb: Verb, group: Piece) -> Result<Opt
 }
 
 /// Takes the options of a verb from the words after it. The words that are left are the operands.
-pub fn take_options<'a>(verb: Verb, words: WordsLeft<'a>) -> Result<(Settings, WordsLeft<'a>), Usage>
+pub fn take_options<'a>(
+    verb: Verb,
+    words: WordsLeft<'a>,
+) -> Result<(Settings, WordsLeft<'a>), Usage>
     ensures options { let total = words.entry.number + length (left words.entry) in
         let taken = taken_options verb total (left words.entry) (settings_given []) None in
         MatchResult result (λ read. taken ≡ Ok (read.0, left read.1)) (λ usage. taken ≡ Err usage) }

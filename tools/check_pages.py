@@ -40,7 +40,8 @@ SENTENCE = re.compile(r"(?<=[.?!])[)\"*]* +(?=[\"(*]*[A-Z0-9`~])")
 
 BODIES = "docs/WRONG_BODIES.md"
 EDIT = "crates/%s/must-fail/%s.edit"
-FIELD = re.compile(r"^(file|old): (.*)$", re.M)
+FIELD = re.compile(r"^(file|old|new): (.*)$", re.M)
+LIBRARY = re.compile(r"(?<![\w:])([a-z]\w*)::")
 
 # The wrong bodies that must stay, by crate.
 STAY = {
@@ -230,7 +231,10 @@ def bad_count(names):
 
 
 def bad_edits(names):
-    """The wrong bodies that can't be made: some old text doesn't stand exactly once in the file named before it."""
+    """The wrong bodies that can't be made: some old text doesn't stand exactly once in the file named before it, or a
+    new one names a library that the crate doesn't use."""
+    uses = uses_of((ROOT / "crates.txt").read_text(encoding="utf-8"))
+    libraries = {*uses, *itertools.chain(*uses.values())}
     for name in names:
         if name.endswith(".edit"):
             crate, text = (ROOT / name).parent.parent, ""
@@ -238,8 +242,12 @@ def bad_edits(names):
                 if key == "file":
                     file = crate / value
                     text = file.read_text(encoding="utf-8") if file.exists() else ""
-                elif text.count(value) != 1:
-                    yield "%s: its old text stands %d times in %s" % (name, text.count(value), file.name)
+                elif key == "old":
+                    if text.count(value) != 1:
+                        yield "%s: its old text stands %d times in %s" % (name, text.count(value), file.name)
+                else:
+                    strange = libraries.difference(uses[crate.name]).intersection(LIBRARY.findall(value))
+                    yield from ("%s: its crate doesn't use %s" % (name, it) for it in sorted(strange))
 
 
 def main():

@@ -1,5 +1,5 @@
 //! Why a command is refused, and the number of each refusal.
-ghost use Rattle.std.specs.Prelude.{◌≡◌};
+ghost use Rattle.std.specs.Prelude.{◌≡◌, ◌<◌};
 ghost use Rattle.eli_base.specs.Refusals.{number_of};
 
 /// What is wrong with the words of a line, by POSIX option syntax.
@@ -161,6 +161,16 @@ impl Refusal {
             Refusal::LastKey { .. } => 20,
             Refusal::IterationsNeedOneKey => 21,
             Refusal::PassphraseNeeded => 22,
+            _ => self.higher_number(),
+        }
+    }
+
+    // The number of a refusal whose number is above 22.
+    fn higher_number(&self) -> u8
+        requires { 22 < number_of self.now }
+        ensures { result ≡ number_of self.now }
+    {
+        match self {
             Refusal::OutOfRange { .. } => 23,
             Refusal::ReadOnly => 24,
             Refusal::Integrity { .. } => 25,
@@ -187,6 +197,7 @@ impl Refusal {
             Refusal::BadPlace { .. } => 46,
             Refusal::NotAuthenticated => 47,
             Refusal::BadPlaceFile { .. } => 48,
+            _ => unreachable!(),
         }
     }
 }

@@ -22,8 +22,8 @@ pub fn seal_plain(ring: &mut KeyRing, offset: u64, block: &mut [u8])
         reading k (offset / k.sectorsize) (device_sectors k block.new) ≡ Ok block.old }
     ensures keying { ring.new.keying ≡ ring.old.keying }
 {
-    ring.is_of_a_keying();
-    seal_run(ring, offset, block);
+    let size = ring.layout().size;
+    seal_run(ring, offset, &mut block[..size]);
 }
 
 /// Opens the bytes of one logical sector in place, without authentication. `offset` is the sector's place on the device
@@ -36,6 +36,6 @@ pub fn open_plain(ring: &mut KeyRing, offset: u64, block: &mut [u8])
         reading k (offset / k.sectorsize) (device_sectors k block.old) ≡ Ok block.new }
     ensures keying { ring.new.keying ≡ ring.old.keying }
 {
-    ring.is_of_a_keying();
-    open_run(ring, offset, block);
+    let size = ring.layout().size;
+    open_run(ring, offset, &mut block[..size]);
 }

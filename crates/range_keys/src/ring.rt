@@ -227,11 +227,4 @@ impl KeyRing {
     {
         self.master
     }
-
-    /// A law: the keying of a ring is one that a provider may have.
-    pub fn is_of_a_keying(&self)
-        ensures { IsKeying self.now.keying }
-    {
-        let _ = &self.params;
-    }
 }

@@ -1,15 +1,17 @@
 -- Each entry of the tables of columns, a column from four of them, and a round by columns.
-use Rattle.std.proofs.Common.{◌≡◌, ℕ, suc, ◌^◌, ◌+◌, ◌-◌, ◌*◌, ◌<◌, ◌/◌, ◌%◌, List, [], ◌∷◌, length, map, get_or, bit_xor, bit_and, refl, sym, ap, subst, ◌∙◌, arith, lit<}
+use Rattle.std.proofs.Common.{◌≡◌, ℕ, zero, suc, ◌^◌, ◌+◌, ◌-◌, ◌*◌, ◌<◌, ◌/◌, ◌%◌, List, [], ◌∷◌, length, map, get_or, bit_xor, bit_and, refl, sym, ap, subst, ◌∙◌, arith, lit<, zero-add}
 use Rattle.std.proofs.lemmas.Nat.{xor_block, xor_of_8}
 use Rattle.std.specs.Int.Bits.{xor_zero_l, xor_zero_r}
+use Rattle.std.specs.List.{range_with_len}
 use Rattle.std.proofs.lemmas.List.{get_or-map}
+use Rattle.std.proofs.lemmas.List.FromFn.{get_or-map-range_with_len}
 use Rattle.std.specs.Simd.Lanes.{digits_l, number_l}
 use Rattle.aes_core.specs.Field.{times}
 use Rattle.std.proofs.lemmas.Simd.{get_or-zip2, get_or-chunk}
-use Rattle.aes_core.specs.Aes.{sbox, bytes_by, xor, sub_bytes, shift_rows, mix_columns, round_key}
+use Rattle.aes_core.specs.Aes.{sbox, inverse_affine, inverse_sbox, after_inverse_rounds, bytes_by, xor, sub_bytes, shift_rows, mix_columns, inverse_sub_bytes, inverse_shift_rows, inverse_mix_columns, circulant_byte, round_key}
 use Rattle.aes_core.proofs.Boxes.{sbox_table, sbox_entry}
 use Rattle.aes_core.specs.State.{IsState}
-use Rattle.aes_core.proofs.Inverse.{by_index, times-lt, sum4, sum4-rotated, sbox-lt, IsState-sub_bytes, IsState-shift_rows, IsState-mix_columns}
+use Rattle.aes_core.proofs.Inverse.{by_index, times-lt, power-lt, sum4, sum4-rotated, sbox-lt, IsState-sub_bytes, IsState-shift_rows, IsState-mix_columns, IsState-bytes_by, IsState-xor}
 use Rattle.aes_core.specs.Columns.{word_of, word_at, words_of, mixed_word}
 use Rattle.aes_core.specs.declared.column_tables.TheConstants.{ROW_0, ROW_1, ROW_2, ROW_3}
 

@@ -1,6 +1,6 @@
 //! Blocks of 16 bytes.
 
-ghost use Rattle.std.specs.Prelude.{◌≡◌, ◌+◌, ◌*◌, ◌≤◌, length};
+ghost use Rattle.std.specs.Prelude.{◌≡◌, ℕ, ◌+◌, ◌*◌, ◌≤◌, length};
 ghost use Rattle.aes_core.specs.Aes.{xor};
 ghost use Rattle.aes_core.specs.Blocks.{block};
 

@@ -1,6 +1,6 @@
 //! The key expansion (FIPS 197, 5.2), word by word.
 
-ghost use Rattle.std.specs.Prelude.{◌≡◌, ◌+◌, ◌-◌, ◌*◌, ◌/◌, ◌%◌, ◌<◌, ◌≤◌, ◌++◌, length, replicate};
+ghost use Rattle.std.specs.Prelude.{◌≡◌, ℕ, ◌+◌, ◌-◌, ◌*◌, ◌/◌, ◌%◌, ◌<◌, ◌≤◌, ◌++◌, length, replicate, List};
 ghost use Rattle.aes_core.specs.Field.{power};
 ghost use Rattle.aes_core.specs.Aes.{xor, sub_bytes, word, rotated, key_term, key_schedule};
 

@@ -4,7 +4,7 @@
 //! by tables, which are proved from the same equations. A state is a block: row r of column c is byte r + 4 * c (FIPS
 //! 197, 3.4).
 
-ghost use Rattle.std.specs.Prelude.{◌≡◌, ◌<◌, bit_xor};
+ghost use Rattle.std.specs.Prelude.{◌≡◌, ◌<◌, ℕ, bit_xor, List};
 ghost use Rattle.aes_core.specs.Field.{times_x, times, inverse};
 ghost use Rattle.aes_core.specs.Aes.{affine, inverse_affine, sbox, inverse_sbox, sub_bytes, shift_rows, mix_columns, inverse_sub_bytes, inverse_shift_rows, inverse_mix_columns, xor, round_key, enciphered, deciphered};
 

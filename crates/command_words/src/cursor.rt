@@ -1,5 +1,5 @@
 //! The words of a line, taken one by one.
-ghost use Rattle.std.specs.Prelude.{◌≡◌, ◌+◌, ◌-◌, ◌<◌, ◌≤◌, [], ◌∷◌, length, if◌then◌else◌, false, IsTrue, IfSome, MatchOption, ◌⊎◌};
+ghost use Rattle.std.specs.Prelude.{◌≡◌, ◌+◌, ◌-◌, ◌<◌, ◌≤◌, ℕ, [], ◌∷◌, length, if◌then◌else◌, false, IsTrue, IfSome, MatchOption, ◌⊎◌};
 
 use crate::spans::{Sep, Span};
 

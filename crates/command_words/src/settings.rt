@@ -1,6 +1,6 @@
 //! What the options of a line say.
 ghost use Rattle.std.specs.Prelude.{◌≡◌, [], ◌++◌, ◌∷◌, length, false, pos, Ok, Err, Some, None, MatchResult};
-ghost use Rattle.command_words.specs.Values.{decimal, value_fault, files_fault, file_fault, number_within};
+ghost use Rattle.command_words.specs.Values.{decimal, value_fault, files_fault, file_fault, number_within, old_size_named};
 ghost use Rattle.command_words.specs.Cursor.{seen};
 ghost use Rattle.command_words.specs.Settings.{span_of, backup_of};
 

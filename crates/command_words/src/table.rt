@@ -1,5 +1,5 @@
 //! The verbs, their options and their operands.
-ghost use Rattle.std.specs.Prelude.{◌≡◌, MatchOption, map};
+ghost use Rattle.std.specs.Prelude.{◌≡◌, ℕ, MatchOption, map, length};
 ghost use Rattle.command_words.specs.Table.{row_seen, name_seen, row_of, named_among, verb_named, letter_of, entry, of_length, are_named, is_named, of_words, form_of};
 ghost use Rattle.command_words.specs.Values.{job_name};
 ghost use Rattle.command_words.specs.Cursor.{left};

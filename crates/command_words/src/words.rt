@@ -1,5 +1,8 @@
 //! What the words of the command line say, read once.
-ghost use Rattle.std.specs.Prelude.{◌≡◌, IfOk, map, string_bytes};
+ghost use Rattle.std.specs.Prelude.{◌≡◌, IfOk, length, map, string_bytes};
+ghost use Rattle.command_words.specs.Bounds.{IsBounded};
+ghost use Rattle.command_words.specs.Images.{name_at};
+ghost use Rattle.command_words.specs.Places.{CommandIsWithin, ProviderIsText, provider_of};
 ghost use Rattle.command_words.specs.Said.{FitsItsLine, Says, image_names_of};
 
 use crate::commands::Command;

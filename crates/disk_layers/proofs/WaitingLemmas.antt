@@ -1,11 +1,11 @@
 -- Writes that wait, and what is done of them.
-use Rattle.std.proofs.Common.{◌≡◌, ◌≢◌, ℕ, ◌==◌, Bool, true, false, Bor, eq-eqb, ne_eqb, List, [], ◌∷◌, ◌++◌, map, cond, Option, Some, None, refl, sym, ap, ◌∙◌, subst, append_assoc, get_or, unwrap_or, Contains}
+use Rattle.std.proofs.Common.{◌≡◌, ◌≢◌, ℕ, ◌==◌, Bool, true, false, Bor, eq-eqb, ne_eqb, List, [], ◌∷◌, ◌++◌, map, cond, Option, Some, None, refl, sym, ap, ◌∙◌, subst, append_assoc, append-nil, get_or, unwrap_or, Contains}
 use Rattle.block_traits.specs.declared.disk.Event.{Event}
 use Rattle.block_traits.specs.Content.{Content, kept_after, kept_values, logged, present, present_after, with_events}
 use Rattle.block_traits.specs.Disk.{DiskState, FailsIn, GivesFrom, Logs}
 use Rattle.block_traits.proofs.Contents.{kept_after-append, present_after-append}
 use Rattle.std.proofs.lemmas.List.Elements.{Contains-append_left}
-use Rattle.block_traits.proofs.Logs.{Logs-then}
+use Rattle.block_traits.proofs.Logs.{Logs-nothing, Logs-then}
 use Rattle.disk_layers.specs.declared.write_behind.Waiting.{Waiting}
 use Rattle.disk_layers.specs.Waiting.{StopsIn, last_after, last_waiting, write_of, writes_of}
 

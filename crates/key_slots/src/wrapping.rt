@@ -1,5 +1,5 @@
 //! A master key wrapped by a user key.
-ghost use Rattle.std.specs.Prelude.{◌≡◌, ◌+◌, ◌≤◌, ◌∷◌, ◌++◌};
+ghost use Rattle.std.specs.Prelude.{◌≡◌, ◌+◌, ◌≤◌, [], ◌∷◌, ◌++◌, length, take};
 ghost use Rattle.key_slots.specs.Slots.{IsKeyBits, check_code, slot_text, wrapping_key, wrapped, IsSlotOf};
 
 use aes_core::Schedule;

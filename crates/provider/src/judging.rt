@@ -1,7 +1,7 @@
 //! Which units are accepted: the tags of device sectors in memory are computed, and nothing is deciphered.
-ghost use Rattle.std.specs.Prelude.{◌≡◌, ◌≢◌, ◌↔◌, ◌+◌, ◌*◌, ◌/◌, ◌^◌, ◌%◌, ◌<◌, ◌≤◌, length};
+ghost use Rattle.std.specs.Prelude.{◌≡◌, ◌≢◌, ◌↔◌, ◌+◌, ◌*◌, ◌/◌, ◌^◌, ◌%◌, ◌<◌, ◌≤◌, IsTrue, is_ok, length, true};
 ghost use Rattle.eli_base.specs.declared.algorithms.Auth.TheVariants.{Off};
-ghost use Rattle.sealing.specs.Sectors.{units};
+ghost use Rattle.sealing.specs.Sectors.{unit_reading_at, units};
 ghost use Rattle.provider.specs.Verdicts.{HasWholeFour, IsFirstRefused, Judges, accepted_among, verdict};
 
 use crate::judged::Judged;

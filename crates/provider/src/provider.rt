@@ -11,9 +11,9 @@
 //!
 //! Data is sealed into the buffer and then written by as few calls of the disk as the buffer allows. So the buffer
 //! holds sealed bytes only, never plaintext, and needs no clearing.
-ghost use Rattle.std.specs.Prelude.{◌≡◌, ◌≢◌, ◌+◌, ◌*◌, ◌/◌, ◌%◌, ◌^◌, ◌<◌, ◌≤◌, ◌↔◌, ◌∷◌, [], OnOk, OnErr, Ok, Err, IfErr, IfOk, MatchResult, false, length, replicate, true};
+ghost use Rattle.std.specs.Prelude.{◌≡◌, ◌≢◌, ℕ, ◌+◌, ◌*◌, ◌/◌, ◌%◌, ◌^◌, ◌<◌, ◌≤◌, ◌↔◌, ◌∷◌, [], List, IsTrue, OnOk, OnErr, None, Ok, Err, IfErr, IfOk, IfSome, MatchResult, false, is_ok, length, replicate, true};
 ghost use Rattle.block_traits.specs.Causes.{Counted};
-ghost use Rattle.block_traits.specs.Disk.{FailsIn, Gives, GivesEach, Logs};
+ghost use Rattle.block_traits.specs.Disk.{DiskState, FailsIn, Gives, GivesEach, Logs};
 ghost use Rattle.block_traits.specs.Parts.{parts};
 ghost use Rattle.eli_metadata.specs.Checks.{settings_of, size_matches, slot_matches, supported};
 ghost use Rattle.provider.specs.Answers.{AttachAnswers, Means, ReadAnswers, Target, WriteAnswers, request};

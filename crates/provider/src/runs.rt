@@ -10,12 +10,13 @@
 //!
 //! After a refusal `into` and `buffer` may hold any bytes; `Provider::read` clears the caller's. A run is cut into
 //! batches that fit the buffer, which has room for the device sectors of one logical sector at least.
-ghost use Rattle.std.specs.Prelude.{◌≡◌, ◌+◌, ◌*◌, ◌/◌, ◌%◌, ◌^◌, ◌<◌, ◌≤◌, [], Ok, OnOk, OnErr, IfSome, false, length, take, true};
+ghost use Rattle.std.specs.Prelude.{◌≡◌, ℕ, ◌+◌, ◌*◌, ◌/◌, ◌%◌, ◌^◌, ◌<◌, ◌≤◌, [], Ok, OnOk, OnErr, IfSome, Option, false, length, take, true};
 ghost use Rattle.block_traits.specs.Causes.{Counted};
-ghost use Rattle.block_traits.specs.Disk.{FailsIn, GivesEach, Logs, write_events};
+ghost use Rattle.block_traits.specs.Content.{Content};
+ghost use Rattle.block_traits.specs.Disk.{DiskState, FailsIn, GivesEach, GivesEachFrom, Logs, write_events};
 ghost use Rattle.eli_base.specs.declared.algorithms.Auth.TheVariants.{Off};
 ghost use Rattle.sealing.specs.Sectors.{units};
-ghost use Rattle.provider.specs.Reading.{ReadsAs, sector_reading};
+ghost use Rattle.provider.specs.Reading.{ReadsAs, ReadsFrom, sector_reading};
 ghost use Rattle.provider.specs.Reads.{FailsAmong, RunAnswers, SectorAnswers};
 ghost use Rattle.provider.specs.Writing.{data_writes};
 

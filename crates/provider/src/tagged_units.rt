@@ -1,8 +1,8 @@
 //! Logical sectors with authentication that are read unit by unit.
-ghost use Rattle.std.specs.Prelude.{◌≡◌, ◌≢◌, ◌+◌, ◌*◌, ◌^◌, ◌<◌, ◌≤◌, ◌%◌, ◌↔◌, length};
+ghost use Rattle.std.specs.Prelude.{◌≡◌, ◌≢◌, ◌+◌, ◌*◌, ◌^◌, ◌<◌, ◌≤◌, ◌%◌, ◌↔◌, IsTrue, min, is_ok, length};
 ghost use Rattle.eli_base.specs.declared.algorithms.Auth.TheVariants.{Off};
 ghost use Rattle.eli_base.specs.Units.{unit_bytes_of};
-ghost use Rattle.sealing.specs.Sectors.{units};
+ghost use Rattle.sealing.specs.Sectors.{unit_reading_at, units};
 ghost use Rattle.provider.specs.Reads.{UnitAnswers, SectorAnswers};
 
 use crate::ReadFault;

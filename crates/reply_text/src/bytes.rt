@@ -1,5 +1,5 @@
 //! Bytes in hexadecimal.
-ghost use Rattle.std.specs.Prelude.{◌≡◌, ◌++◌, ◌≤◌, ◌∷◌, length};
+ghost use Rattle.std.specs.Prelude.{◌≡◌, ◌++◌, ◌≤◌, ◌∷◌, [], length, codes};
 ghost use Rattle.hex.specs.Hex.{encode_lower};
 ghost use Rattle.reply_text.specs.Output.{Puts};
 ghost use Rattle.reply_text.specs.Text.{bytes_text};

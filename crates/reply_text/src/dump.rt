@@ -1,6 +1,6 @@
 //! The metadata, line by line.
 ghost use Rattle.std.specs.Prelude.{◌≡◌, ◌*◌, length, codes, false};
-ghost use Rattle.std.specs.Fmt.{signed_decimal, digits};
+ghost use Rattle.std.specs.Fmt.{decimal, signed_decimal, digits};
 ghost use Rattle.hex.specs.Hex.{encode_lower};
 ghost use Rattle.reply_text.specs.Output.{Puts};
 ghost use Rattle.reply_text.specs.Text.{line, dump_text, format_lines, size_lines, key_lines};

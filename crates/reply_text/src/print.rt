@@ -1,5 +1,5 @@
 //! Texts given to a sink, and texts of several pieces put on a page.
-ghost use Rattle.std.specs.Prelude.{◌≡◌, ◌++◌, ◌∷◌, map};
+ghost use Rattle.std.specs.Prelude.{◌≡◌, ◌++◌, ◌∷◌, [], map};
 ghost use Rattle.std.specs.List.{concat};
 ghost use Rattle.reply_text.specs.Output.{Prints, Puts};
 ghost use Rattle.reply_text.specs.Text.{line};

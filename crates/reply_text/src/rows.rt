@@ -1,5 +1,6 @@
 //! The drawers, one on each line.
-ghost use Rattle.std.specs.Prelude.{◌≡◌, ◌++◌, ◌∷◌};
+ghost use Rattle.std.specs.Prelude.{◌≡◌, ◌++◌, codes, ◌∷◌, [], map};
+ghost use Rattle.std.specs.List.{concat};
 ghost use Rattle.reply_text.specs.Output.{Puts};
 ghost use Rattle.reply_text.specs.Text.{row_text, row_state, row_lines, sizes_of};
 

@@ -4,7 +4,7 @@
 //! Each word of the hash is a vector with one lane for each message. No call allocates memory.
 #![tactic(auto)]
 
-ghost use Rattle.std.specs.Prelude.{◌≡◌, ◌<◌, ◌≤◌, ◌++◌, ℕ, [], slice_index_or};
+ghost use Rattle.std.specs.Prelude.{◌≡◌, ◌<◌, ◌≤◌, ◌++◌, ℕ, [], length, slice_index_or};
 ghost use Rattle.hmac_kdf.specs.Hmac.{hmac, hmac384, hmac512, key_block, masked};
 ghost use Rattle.sha_lanes.specs.Lanes.{HaveOneLength, bytes_of};
 ghost use Rattle.sha512_lanes.specs.Hashes.{first_bytes};

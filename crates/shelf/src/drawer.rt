@@ -13,7 +13,7 @@ ghost use Rattle.command_rows.specs.Turn.{GoesThrough, Serves, ShowsBy, entry_of
 ghost use Rattle.command_rows.specs.World.{Holding, HoldsKeying, Idle, IsAttached, IsSuspended, reach_of};
 ghost use Rattle.shelf.specs.Shelved.{attachment_of, disk_in, drawer_of, holding_of, is_attached, kept_of};
 ghost use Rattle.shelf.specs.Shelved.{reach_in, reach_on};
-ghost use Rattle.std.specs.Prelude.{◌≡◌, IfOk, IsSome, None, false, length, option_copied, true};
+ghost use Rattle.std.specs.Prelude.{◌≡◌, ℕ, List, IfOk, IsSome, None, false, length, option_copied, true};
 
 use crate::replies::{digest_or, done_or, dump_or, left_or, payload_or, reaped_or, tag_or};
 use crate::requests::or_device_fault;

@@ -1,6 +1,6 @@
 //! A provider between its suspending and its resuming.
-ghost use Rattle.std.specs.Prelude.{◌≡◌, ◌∷◌, [], MatchResult, OnOk, OnErr, Ok};
-ghost use Rattle.block_traits.specs.Disk.{FailsIn, Logs};
+ghost use Rattle.std.specs.Prelude.{◌≡◌, ℕ, ◌∷◌, [], List, MatchResult, OnOk, OnErr, Ok};
+ghost use Rattle.block_traits.specs.Disk.{DiskState, FailsIn, Logs};
 ghost use Rattle.eli_metadata.specs.Checks.{settings_of, size_matches, slot_matches, supported};
 ghost use Rattle.provider.specs.Answers.{Means, Target};
 ghost use Rattle.sha2.specs.Sha256.{sha256};

@@ -1,5 +1,6 @@
 #!/usr/bin/env python3
-"""Looks for dead names and long lines in the pages: README.md, docs/*.md and crates/*/README.md; and for wrong bodies.
+"""Looks for dead names and long lines in the pages: README.md, docs/*.md and crates/*/README.md; for wrong bodies; and
+for destructors.
 
     tools/check_pages.py [PAGE...]
 
@@ -14,7 +15,9 @@ It prints, each with its file and line:
 - crates that docs/PROOFS.md doesn't name, and where the table of docs/ARCHITECTURE.md isn't crates.txt: its groups, the
   crates of each in their order, and what each stands on; crates of crates.txt before one that they use;
 - wrong bodies that must stay (STAY) and have no row in docs/WRONG_BODIES.md or no file, each wrong body whose old text
-  doesn't stand exactly once in the file that it names, and a sentence of that page that counts them wrongly.
+  doesn't stand exactly once in the file that it names, and a sentence of that page that counts them wrongly;
+- destructors: no clause of a caller says what an `impl Drop` of a type does when a value is let go, so one could write
+  to an image after the last flush.
 It ends with status 1 where it found something.
 """
 import itertools
@@ -42,6 +45,8 @@ BODIES = "docs/WRONG_BODIES.md"
 EDIT = "crates/%s/must-fail/%s.edit"
 FIELD = re.compile(r"^(file|old|new): (.*)$", re.M)
 LIBRARY = re.compile(r"(?<![\w:])([a-z]\w*)::")
+DESTRUCTOR = re.compile(r"\bimpl\b[^{};]*?\bDrop\s+for\b")
+COMMENT = re.compile(r"//[^\n]*")
 
 # The wrong bodies that must stay, by crate.
 STAY = {
@@ -250,6 +255,14 @@ def bad_edits(names):
                     yield from ("%s: its crate doesn't use %s" % (name, it) for it in sorted(strange))
 
 
+def destructors(names):
+    for name in names:
+        if name.endswith(".rt"):
+            text = COMMENT.sub("", (ROOT / name).read_text(encoding="utf-8"))
+            for found in DESTRUCTOR.finditer(text):
+                yield "%s:%d: a destructor" % (name, text.count("\n", 0, found.start()) + 1)
+
+
 def main():
     names = files()
     words = words_of_the_tree(names)
@@ -265,7 +278,7 @@ def main():
         count += len(found)
     if not sys.argv[1:]:
         others = [*long_readme(), *missing_crates(), *early_crates(), *differing_crates(), *missing_bodies(),
-                  *bad_count(names), *bad_edits(names)]
+                  *bad_count(names), *bad_edits(names), *destructors(names)]
         print("".join(line + "\n" for line in others), end="")
         count += len(others)
     print("%d found in %d pages" % (count, len(asked)))

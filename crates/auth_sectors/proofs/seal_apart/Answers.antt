@@ -1,4 +1,5 @@
 use Rattle.std.proofs.Common.{◌≡◌, ℕ, ◌+◌, ◌*◌, ◌<◌, List, ◌∷◌, [], get_or, slice_index_or, length, ap, ◌∙◌, refl, sym, arith}
+use Rattle.std.proofs.lemmas.Grind.{common_steps}
 use Rattle.eli_base.specs.Keying.{Keying}
 use Rattle.eli_base.specs.Units.{unit_bytes_of}
 use Rattle.sealing.specs.TaggedUnits.{sealed_tagged}
@@ -39,3 +40,6 @@ returns-clause-sealed c =
     let unit = λ (p : ℕ) (j : ℕ). ap (λ (b : List ℕ). sealed_tagged k p b) (sym (bytes_of_is c.args.plain j)) in
     parts_of_four c.put_tag.new.sector c.put_tag-2.new.sector c.put_tag-3.new.sector c.put_tag-4.new.sector (omega arith) (omega arith) (omega arith) (omega arith)
     ∙ (λ i. (first ∙ unit offset 0) i ∷ (second ∙ unit (offset + step) 1) i ∷ (third ∙ unit (offset + 2 * step) 2) i ∷ (fourth ∙ unit (offset + 3 * step) 3) i ∷ [])
+
+pub returns-clause-keying : goal.returns-clause-keying
+returns-clause-keying c = grind (arith, common_steps)

@@ -1,4 +1,5 @@
 use Rattle.std.proofs.Common.{◌≡◌, ◌*◌, ◌/◌, ◌∙◌, length, sym, ap, arith}
+use Rattle.std.proofs.lemmas.Grind.{common_steps}
 use Rattle.aes_core.specs.Schedule.{AreBytes}
 use Rattle.aes_core.specs.Blocks.{blocks}
 use Rattle.aes_core.proofs.InPlace.{IsDone-start, IsDone-block, IsDone-next, IsDone-end}
@@ -35,3 +36,6 @@ returns-clause-taken_back c =
     let is = IsDone-end (sealed c.args.k.now c.args.iv.now p) p c.loop-j.block c.loop-j.j len c.loop-j.invariant.done in
     ap (cbc_open c.args.k.now c.args.iv.now) (is ∙ ap (λ n. blocks (sealed c.args.k.now c.args.iv.now p) n) j)
     ∙ cbc_open-cbc_seal c.args.k.now c.args.iv.now p c.is_of_a_key.ensures c.told-iv iv_bytes c.loop-j.invariant.bytes c.requires
+
+pub returns-clause-sealed : goal.returns-clause-sealed
+returns-clause-sealed c = grind (arith, common_steps) steps 400000

@@ -1,4 +1,5 @@
 use Rattle.std.proofs.Common.{◌≡◌, ◌/◌, ◌≤◌, length, sym, arith}
+use Rattle.std.proofs.lemmas.Grind.{common_steps}
 use Rattle.std.proofs.lemmas.List.{take_all, drop_all, append-nil}
 use Rattle.sealing.specs.Sectors.{device_sectors}
 use Rattle.sealing.proofs.Plain.{at_sector, concat-device_sectors, reading-plain}
@@ -19,3 +20,6 @@ returns-clause-opened c =
     rw (drop_all size sealed fits, append-nil plain)
     (reading-plain k (c.args.offset / k.sectorsize) c.args.offset (device_sectors k sealed) sealed plain c.requires.off is.at_least is.whole
     (at_sector c.args.offset k.sectorsize c.requires.place) (concat-device_sectors k sealed c.requires.off is.at_least is.whole c.requires.size) (sym opened) same)
+
+pub returns-clause-keying : goal.returns-clause-keying
+returns-clause-keying c = grind (arith, common_steps) steps 400000

@@ -1,4 +1,5 @@
 use Rattle.std.proofs.Common.{◌≡◌, ◌/◌, ◌≤◌, length, arith}
+use Rattle.std.proofs.lemmas.Grind.{common_steps}
 use Rattle.std.proofs.lemmas.List.{take_all, drop_all, append-nil}
 use Rattle.sealing.specs.Sectors.{device_sectors}
 use Rattle.sealing.proofs.Plain.{at_sector, concat-device_sectors, reading-plain}
@@ -19,3 +20,9 @@ returns-clause-taken_back c =
     rw (drop_all size plain fits, append-nil sealed)
     (reading-plain k (c.args.offset / k.sectorsize) c.args.offset (device_sectors k sealed) sealed plain c.requires.off is.at_least is.whole (at_sector c.args.offset k.sectorsize c.requires.place)
     (concat-device_sectors k sealed c.requires.off is.at_least is.whole same) taken_back c.requires.size)
+
+pub returns-clause-sealed : goal.returns-clause-sealed
+returns-clause-sealed c = grind (arith, common_steps)
+
+pub returns-clause-keying : goal.returns-clause-keying
+returns-clause-keying c = grind (arith, common_steps) steps 400000

@@ -1,4 +1,5 @@
 use Rattle.std.proofs.Common.{◌≡◌, ℕ, arith, subst}
+use Rattle.std.proofs.lemmas.Grind.{common_steps}
 use Rattle.aes_planes.specs.Wide.{side}
 use Rattle.aes_planes.proofs.BlockLaws.{add_states}
 use Rattle.aes_planes.proofs.InverseLaws.{IsInverseAt, inverse_start, inverse_step, inverse_end, inverse_sub_states, key_from_end}
@@ -41,3 +42,6 @@ returns-clause-sides c =
     inverse_end c.args.round_keys.now c.args.count (side i c.args.q) (side i c.loop-n.s) (side i c.wide_inverse_sub_bytes-2.result) (side i c.wide_by_columns.result) _ (side i c.wide_add_round_key-2.result)
     (side i c.wide_transposed-2.result) (c.requires.states i li) keys.states at (c.wide_inverse_sub_bytes-2.ensures.sides i li) (c.wide_by_columns.ensures.sides i li) (keys.first _) (c.wide_add_round_key-2.ensures.sides i li)
     (c.wide_transposed-2.ensures.sides i li)
+
+pub returns-clause-wide : goal.returns-clause-wide
+returns-clause-wide c = grind (arith, common_steps) steps 400000

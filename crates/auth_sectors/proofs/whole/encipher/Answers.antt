@@ -1,4 +1,5 @@
 use Rattle.std.proofs.Common.{rules, ◌≡◌, ◌-◌, ◌++◌, ℕ, List, length, replicate, ap, ◌∙◌, sym, arith}
+use Rattle.std.proofs.lemmas.Grind.{common_steps}
 use Rattle.std.proofs.lemmas.List.{drop_at}
 use Rattle.eli_base.specs.Units.{tag_bytes, unit_bytes_of}
 use Rattle.eli_base.proofs.Units.{tag_and_unit}
@@ -25,3 +26,6 @@ returns-clause-long c =
     let sealed : c.seal_run.new.block ≡ sealed_run k c.args.offset c.args.plain.now =
     c.seal_run.ensures.sealed ∙ ap (λ (b : List ℕ). sealed_run k c.args.offset b) c.copy_from_slice.ensures.after in
     ap (λ (l : List ℕ). length l) (sym sealed) ∙ (let same : length c.seal_run.new.block ≡ length c.args.plain.now = omega arith in same)
+
+pub returns-clause-keying : goal.returns-clause-keying
+returns-clause-keying c = grind (arith, common_steps) steps 400000

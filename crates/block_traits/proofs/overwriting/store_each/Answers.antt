@@ -1,4 +1,5 @@
 use Rattle.std.proofs.Common.{◌≡◌, List, ℕ, [], ◌∷◌, ◌∙◌, drop, get_or, subst, arith, rules}
+use Rattle.std.proofs.lemmas.Grind.{common_steps}
 use Rattle.std.proofs.Math.ListN.{drop_of_length-le}
 use Rattle.block_traits.specs.Disk.{Continues, FailsIn, Logs}
 use Rattle.block_traits.specs.Overwriting.{overwrite_events}
@@ -39,3 +40,21 @@ returns-clause-ok g c =
     let number = g.S.SectorOf.number c.args.sector.now c.args.device.now in
     let P : List (List ℕ) → Type 0 = λ more. Continues (overwrite_events number more) (overwrite_events number c.args.values.now) (state c.loop-value.device) (state c.args.device.now) in
     Continues-end (overwrite_events number c.args.values.now) (subst P none c.loop-value.invariant.left)
+
+pub returns-in_err-store-clause-ok : goal.returns-in_err-store-clause-ok
+returns-in_err-store-clause-ok g c = grind (arith, common_steps) steps 400000
+
+pub returns-in_err-store-clause-unasked : goal.returns-in_err-store-clause-unasked
+returns-in_err-store-clause-unasked g c = grind (arith, common_steps) steps 400000
+
+pub returns-in_err-store-clause-rest : goal.returns-in_err-store-clause-rest
+returns-in_err-store-clause-rest g c = grind (arith, common_steps) steps 400000
+
+pub returns-clause-err : goal.returns-clause-err
+returns-clause-err g c = grind (arith, common_steps) steps 400000
+
+pub returns-clause-unasked : goal.returns-clause-unasked
+returns-clause-unasked g c = grind (arith, common_steps) steps 400000
+
+pub returns-clause-rest : goal.returns-clause-rest
+returns-clause-rest g c = grind (arith, common_steps) steps 400000

@@ -1,4 +1,5 @@
 use Rattle.std.proofs.Common.{refl, arith}
+use Rattle.std.proofs.lemmas.Grind.{common_steps}
 use Rattle.aes_planes.specs.declared.vectors.Planes.{Planes}
 use Rattle.cbc_mode.proofs.GroupLaws.{group_opened}
 use Rattle.cbc_mode.proofs.groups.open_group.Goals as goal
@@ -12,3 +13,6 @@ returns-clause-opened c =
 
 pub returns-clause-last : goal.returns-clause-last
 returns-clause-last c = c.loaded-cipher.ensures 7 (omega arith)
+
+pub returns-clause-long : goal.returns-clause-long
+returns-clause-long c = grind (arith, common_steps) steps 400000

@@ -1,4 +1,5 @@
-use Rattle.std.proofs.Common.{rules, ◌+◌, List, [], ◌∷◌, subst, sym, ◌∙◌}
+use Rattle.std.proofs.Common.{rules, ◌+◌, List, [], ◌∷◌, subst, sym, ◌∙◌, arith}
+use Rattle.std.proofs.lemmas.Grind.{common_steps}
 use Rattle.block_traits.specs.declared.disk.Event.{Event}
 use Rattle.block_traits.specs.declared.disk.Event.TheVariants.{Write}
 use Rattle.block_traits.specs.Disk.{Continues, write_events}
@@ -46,3 +47,15 @@ returns-clause-ok g c =
     let all = write_events c.args.first c.args.from.now in
     let P : List Event → Type 0 = λ events. Continues events all (state c.loop-j.self) (state c.args.self.now) in
     Continues-end all (subst P (writes_left-end c.args.first c.args.from.now c.loop-j.j c.loop-j-test.false) c.loop-j.invariant.events)
+
+pub returns-in_err-write-clause-ok : goal.returns-in_err-write-clause-ok
+returns-in_err-write-clause-ok g c = grind (arith, common_steps) steps 400000
+
+pub returns-in_err-write-clause-unasked : goal.returns-in_err-write-clause-unasked
+returns-in_err-write-clause-unasked g c = grind (arith, common_steps) steps 400000
+
+pub returns-clause-err : goal.returns-clause-err
+returns-clause-err g c = grind (arith, common_steps) steps 400000
+
+pub returns-clause-unasked : goal.returns-clause-unasked
+returns-clause-unasked g c = grind (arith, common_steps) steps 400000

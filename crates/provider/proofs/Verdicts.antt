@@ -1,8 +1,8 @@
 -- Units whose tags were checked.
-use Rattle.std.proofs.Common.{◌≡◌, ◌⊎◌, inl, inr, ℕ, ◌+◌, ◌-◌, ◌*◌, ◌/◌, ◌%◌, ◌<◌, ◌≤◌, Bool, true, false, is_ok, List, [], length, get_or, set, take, drop, sym, ap, subst, ◌∙◌, arith}
+use Rattle.std.proofs.Common.{◌≡◌, ◌⊎◌, inl, inr, ℕ, ◌+◌, ◌-◌, ◌*◌, ◌/◌, ◌%◌, ◌<◌, ◌≤◌, Bool, true, false, is_ok, List, [], length, get_or, set, take, drop, sym, ap, subst, ◌∙◌, arith, add-zero}
 use Rattle.std.proofs.Math.Nat.{div-add-mod, eq-or-lt_of_le}
 use Rattle.std.proofs.lemmas.Bool.{cases_lt}
-use Rattle.std.proofs.lemmas.List.{drop-drop, get_or-set_other, get_or-set_same}
+use Rattle.std.proofs.lemmas.List.{drop-drop, get_or-set_other, get_or-set_same, take_all}
 use Rattle.std.proofs.lemmas.Nat.{mod-mul-add}
 use Rattle.eli_base.specs.Keying.{Keying}
 use Rattle.range_keys.specs.Unit.{IsUnit}
@@ -47,6 +47,10 @@ pub column_put : (J : ℕ) (l : List (List Bool)) (x : List Bool) (P : ℕ → �
     → ((i : ℕ) → i < 4 → get_or x i false ≡ P J i) → (j i : ℕ) → j < J + 1 → i < 4 → get_or (get_or (set l J x) j []) i false ≡ P j i
 column_put J l x P room each new j i lt less =
     let most : j ≤ J = omega arith in column_of J j l x P room each new (eq-or-lt_of_le most) i less
+
+-- the one unit of a single device sector
+pub accepted_alone : (k : Keying) (n : ℕ) (sector : List ℕ) → length sector ≡ 512 → accepted_among k n sector 0 ≡ is_ok (unit_reading_at k n sector)
+accepted_alone k n sector long = λ i. is_ok (unit_reading_at k (add-zero n i) (take_all 512 sector (omega (arith, long)) i))
 
 -- ---- some units after others
 

@@ -18,22 +18,21 @@ ghost use Rattle.block_traits.specs.Parts.{parts};
 ghost use Rattle.eli_metadata.specs.Checks.{settings_of, size_matches, slot_matches, supported};
 ghost use Rattle.provider.specs.Answers.{AttachAnswers, Means, ReadAnswers, Target, WriteAnswers, request};
 ghost use Rattle.provider.specs.Attached.{IsKept, attached_with, has_tags, media};
-ghost use Rattle.provider.specs.Verdicts.{Judges};
 ghost use Rattle.provider.specs.Rest.{rest_of};
 ghost use Rattle.range_keys.specs.Ring.{IsKeying};
 ghost use Rattle.sealing.specs.Data.{opened_data, sealed_sectors};
 ghost use Rattle.sealing.specs.Sectors.{unit_reading_at, units};
+ghost use Rattle.sector_runs.specs.Verdicts.{Judges};
 
 use crate::attaching::{OpenedSlot, open_slot, reserve};
-use crate::judged::Judged;
-use crate::judging::judge;
-use crate::runs::{read_run, write_run};
-use crate::sector_groups::{open_sectors, seal_sectors};
-use crate::{AttachFault, BadUnit, OutOfRange, ReadFault, WriteFault};
+use crate::{AttachFault, OutOfRange, WriteFault};
 use block_traits::{Disk, DiskFailed, Event, MetaPlace, NoMemory, Sector, store_last};
 use eli_base::{Auth, Cipher, MasterKey, Params};
 use eli_metadata::Metadata;
 use range_keys::KeyRing;
+use sector_runs::{
+    BadUnit, Judged, ReadFault, judge, open_sectors, read_run, seal_sectors, write_run,
+};
 use std::alloc::Global;
 use std::marker::Model;
 use user_key::UserKey;

@@ -1,5 +1,5 @@
 use Rattle.std.proofs.Common.{◌∙◌, arith}
-use Rattle.provider.proofs.Verdicts.{accepted_alone}
+use Rattle.sector_runs.proofs.Verdicts.{accepted_alone}
 use Rattle.provider.proofs.provider.Provider.unit_ok.Goals as goal
 
 pub returns-clause-answer : goal.returns-clause-answer

@@ -11,7 +11,7 @@ use Rattle.eli_base.specs.Keying.{Keying}
 use Rattle.eli_base.specs.Requests.{request_limit}
 use Rattle.eli_base.specs.Units.{media_sectors}
 use Rattle.provider.specs.Attached.{Attached}
-use Rattle.provider.proofs.InMemory.{sector_inside}
+use Rattle.sector_runs.proofs.InMemory.{sector_inside}
 use Rattle.sealing.specs.Sectors.{units}
 use Rattle.bio_queue.specs.declared.job.Job.{Job}
 use Rattle.bio_queue.specs.declared.job.Job.TheVariants.{Read, Write, Flush}

@@ -5,7 +5,7 @@ use Rattle.block_traits.specs.Content.{Content}
 use Rattle.block_traits.specs.Disk.{DiskState}
 use Rattle.eli_base.specs.Keying.{Keying}
 use Rattle.provider.specs.Attached.{media}
-use Rattle.provider.specs.Reading.{data_reading}
+use Rattle.sector_runs.specs.Reading.{data_reading}
 use Rattle.byte_ranges.specs.Ranges.{IsCoverOf, IsInside, first_sector, part_of, range_reading, sectors_covered, skipped}
 use Rattle.byte_ranges.specs.Reads.{CannotReadRange, ReadsRange, ReadsWholeSectors}
 use Rattle.byte_ranges.specs.declared.cover.Cover.{Cover}

@@ -6,9 +6,9 @@ use Rattle.block_traits.specs.Disk.{DiskState}
 use Rattle.eli_base.specs.Keying.{Keying}
 use Rattle.provider.specs.Answers.{ReadAnswers, SectorRequest}
 use Rattle.provider.specs.Attached.{Attached}
-use Rattle.provider.specs.Reading.{ReadsFrom, data_reading}
-use Rattle.provider.specs.declared.faults.ReadFault.{ReadFault}
-use Rattle.provider.specs.declared.faults.ReadFault.TheVariants as read
+use Rattle.sector_runs.specs.Reading.{ReadsFrom, data_reading}
+use Rattle.sector_runs.specs.declared.faults.ReadFault.{ReadFault}
+use Rattle.sector_runs.specs.declared.faults.ReadFault.TheVariants as read
 use Rattle.sealing.specs.Sectors.{units}
 use Rattle.byte_ranges.specs.Reads.{ReadsWholeSectors}
 

@@ -10,7 +10,7 @@ use Rattle.eli_base.specs.Keying.{Keying}
 use Rattle.eli_base.specs.Units.{media_sectors}
 use Rattle.provider.specs.Attached.{media}
 use Rattle.byte_ranges.proofs.Covering.{sectors_inside}
-use Rattle.provider.specs.Reading.{sector_reading}
+use Rattle.sector_runs.specs.Reading.{sector_reading}
 use Rattle.byte_ranges.specs.Edges.{EdgeFails, HasBack, HasFront, PutsBackEdge, PutsFrontEdge}
 use Rattle.byte_ranges.specs.Ranges.{IsCoverOf, IsEdge, IsInside, IsSpliced, SectorHas, first_sector, sectors_covered, skipped}
 use Rattle.byte_ranges.specs.Writes.{CannotSplice, SplicesInto}

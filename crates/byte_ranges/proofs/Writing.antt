@@ -8,7 +8,7 @@ use Rattle.block_traits.proofs.Logs.{FailsIn-more, FailsIn-then, Logs-nothing, L
 use Rattle.eli_base.specs.Keying.{Keying}
 use Rattle.provider.specs.Answers.{SectorRequest, WriteAnswers}
 use Rattle.provider.specs.Attached.{Attached}
-use Rattle.provider.specs.Writing.{data_writes}
+use Rattle.sector_runs.specs.Writing.{data_writes}
 use Rattle.provider.specs.declared.faults.WriteFault.{WriteFault}
 use Rattle.provider.specs.declared.faults.WriteFault.TheVariants as write
 use Rattle.byte_ranges.specs.Ranges.{IsCoverOf}

@@ -3,7 +3,7 @@ use Rattle.std.specs.Prelude.{◌≡◌, ◌⊎◌, ℕ, ◌-◌, ◌<◌, Bool,
 use Rattle.block_traits.specs.Content.{Content}
 use Rattle.block_traits.specs.Disk.{DiskState, FailsIn, Logs}
 use Rattle.eli_base.specs.Keying.{Keying}
-use Rattle.provider.specs.Reading.{sector_reading}
+use Rattle.sector_runs.specs.Reading.{sector_reading}
 use Rattle.byte_ranges.specs.Ranges.{SectorHas}
 
 -- a sector can't be read: the disk failed, or a unit of it has another tag than that of its ciphertext

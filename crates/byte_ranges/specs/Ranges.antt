@@ -4,7 +4,7 @@ use Rattle.block_traits.specs.Content.{Content}
 use Rattle.block_traits.specs.Disk.{DiskState}
 use Rattle.eli_base.specs.Keying.{Keying}
 use Rattle.provider.specs.Attached.{media}
-use Rattle.provider.specs.Reading.{data_reading, sector_reading}
+use Rattle.sector_runs.specs.Reading.{data_reading, sector_reading}
 use Rattle.byte_ranges.specs.declared.cover.Cover.{Cover}
 use Rattle.byte_ranges.specs.declared.ranges.ByteRange.{ByteRange}
 

@@ -2,7 +2,7 @@
 use Rattle.std.specs.Prelude.{◌≡◌, ◌⊎◌, ℕ, Bool, true, false, List, [], length, Ok, Err, IfSome}
 use Rattle.block_traits.specs.Disk.{DiskState, FailsIn, Logs}
 use Rattle.eli_base.specs.Keying.{Keying}
-use Rattle.provider.specs.Reading.{data_reading}
+use Rattle.sector_runs.specs.Reading.{data_reading}
 use Rattle.byte_ranges.specs.Ranges.{range_reading}
 use Rattle.byte_ranges.specs.declared.ranges.ByteRange.{ByteRange}
 

@@ -5,8 +5,8 @@ use Rattle.block_traits.specs.Disk.{DiskState, FailsIn, Logs}
 use Rattle.block_traits.specs.declared.disk.Event.{Event}
 use Rattle.block_traits.specs.declared.disk.Event.TheVariants.{Flush}
 use Rattle.eli_base.specs.Keying.{Keying}
-use Rattle.provider.specs.Reading.{sector_reading}
-use Rattle.provider.specs.Writing.{data_writes}
+use Rattle.sector_runs.specs.Reading.{sector_reading}
+use Rattle.sector_runs.specs.Writing.{data_writes}
 use Rattle.byte_ranges.specs.Ranges.{IsEdge, IsSpliced, first_sector, sectors_covered}
 use Rattle.byte_ranges.specs.declared.ranges.ByteRange.{ByteRange}
 

@@ -2,7 +2,7 @@
 ghost use Rattle.std.specs.Prelude.{◌≡◌, ◌+◌, ◌*◌, ◌<◌, ◌≤◌, drop, false, length, take};
 ghost use Rattle.aes_core.specs.Schedule.{AreBytes};
 ghost use Rattle.provider.specs.Attached.{IsKept, media};
-ghost use Rattle.provider.specs.Writing.{data_writes};
+ghost use Rattle.sector_runs.specs.Writing.{data_writes};
 ghost use Rattle.sealing.specs.Sectors.{units};
 ghost use Rattle.byte_ranges.specs.Edges.{PutsBackEdge, PutsFrontEdge, ReadsEdge};
 ghost use Rattle.byte_ranges.specs.Ranges.{IsCoverOf, IsInside};

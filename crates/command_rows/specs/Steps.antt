@@ -6,7 +6,7 @@ use Rattle.block_traits.specs.declared.cabinet.StoreFault.TheVariants as store
 use Rattle.block_traits.specs.declared.disk.Event.TheVariants.{Flush}
 use Rattle.eli_base.specs.Requests.{request_limit}
 use Rattle.eli_base.specs.declared.refusals.Refusal.TheVariants as refusals
-use Rattle.provider.specs.Reads.{RunFails, RunFault}
+use Rattle.sector_runs.specs.Reads.{RunFails, RunFault}
 use Rattle.command_rows.specs.Vocabulary.{CabinetState, Components, Counted, DiskState, Event, FailsIn, FitsWords, Gives, InitOptions, Inits, IsAnswer, KeepsFiles, KeyFault, KeyWords, Keying, LoadsEach, Logs, MasterKey, MayRefuse, MetaFault, Metadata, ReadMetaFault, ReadsAs, ReadsMetadata, Refusal, Rose, Settings, Span, StopsAtFile, UserKey, bytes_at, components_of, data_writes, encoded, file_answer, key_refusal_of, media_sectors, opened, read_refusal_of, refusal_of, refused_word, size_matches, slot_matches, stored, supported, units, user_key}
 use Rattle.command_rows.specs.World.{Attachment, Idle, IsAttached, Reach}
 

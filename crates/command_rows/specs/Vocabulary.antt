@@ -46,15 +46,16 @@ pub use Rattle.key_commands.specs.declared.options.InitOptions.{InitOptions}
 pub use Rattle.key_components.specs.Answers.{IsAnswer, IsRefusal, KeepsFiles, LoadsEach, MayRefuse, MayRefusePassphrase, StopsAtFile, file_answer, refused, refused_word}
 pub use Rattle.key_components.specs.Files.{file_limit, passphrase_limit}
 pub use Rattle.key_components.specs.Key.{FitsWords, components_of}
-pub use Rattle.provider.specs.Attached.{Attached, IsKept, has_tags, media, opened}
-pub use Rattle.provider.specs.Reading.{ReadsAs, ReadsFrom, StandFrom, data_reading, standing}
-pub use Rattle.provider.specs.Writing.{data_writes}
+pub use Rattle.key_slots.specs.Slots.{opened}
+pub use Rattle.provider.specs.Attached.{Attached, IsKept, has_tags, media}
 pub use Rattle.range_keys.specs.Keys.{le64}
 pub use Rattle.range_keys.specs.Ring.{IsKeying}
 pub use Rattle.resize_kill.specs.Killing.{HoldsNoMetadata, Kills, kill_events}
 pub use Rattle.resize_kill.specs.Resizing.{Finds, HoldsOneOf, KeepsOneOf, RefusesOld, RefusesSizes, Resizes, grown, move_events, old_place, old_refusal, size_refusal}
 pub use Rattle.resize_kill.specs.Trash.{TakesTrash, trash_sectors, trash_size}
 pub use Rattle.sealing.specs.Sectors.{joined, units}
+pub use Rattle.sector_runs.specs.Reading.{ReadsAs, ReadsFrom, StandFrom, data_reading, standing}
+pub use Rattle.sector_runs.specs.Writing.{data_writes}
 pub use Rattle.sha2.specs.Sha256.{sha256}
 pub use Rattle.user_key.specs.Derivation.{user_key}
 pub use Rattle.user_key.specs.Refusals.{key_refusal_of}

@@ -4,8 +4,8 @@ use Rattle.block_traits.specs.Crash.{IsUnsettled}
 use Rattle.command_rows.specs.Vocabulary.{Attached, Content, DiskState, FitsSize, IsContentOf, IsKeying, Keying, joined, keying_of, media_sectors}
 use Rattle.eli_base.specs.declared.parameters.Params.{Params}
 use Rattle.provider.specs.declared.faults.AttachFault.{AttachFault}
-use Rattle.provider.specs.declared.faults.ReadFault.{ReadFault}
-use Rattle.provider.specs.declared.faults.ReadFault.TheVariants as read
+use Rattle.sector_runs.specs.declared.faults.ReadFault.{ReadFault}
+use Rattle.sector_runs.specs.declared.faults.ReadFault.TheVariants as read
 use Rattle.provider_readings.proofs.Attaching.{attaches, reads}
 use Rattle.provider_readings.specs.Attaching.{AttachesOrLacksMemory, HasImage, ReadsImage, image_sectors}
 use Rattle.geli_core.specs.Headline.{AnswersBy, AttachesAndReads, EachReads, OpensAndReads, ReadsAfterCrashes, ReadsAsChosen, ReadsAsStands, ReadsBy}

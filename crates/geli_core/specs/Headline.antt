@@ -5,8 +5,8 @@ use Rattle.command_rows.specs.Vocabulary.{Attached, Content, DiskState, IsKeying
 use Rattle.eli_base.specs.declared.parameters.Params.{Params}
 use Rattle.provider.specs.declared.faults.AttachFault.{AttachFault}
 use Rattle.provider.specs.declared.faults.AttachFault.TheVariants as attach
-use Rattle.provider.specs.declared.faults.ReadFault.{ReadFault}
-use Rattle.provider.specs.declared.faults.ReadFault.TheVariants as read
+use Rattle.sector_runs.specs.declared.faults.ReadFault.{ReadFault}
+use Rattle.sector_runs.specs.declared.faults.ReadFault.TheVariants as read
 use Rattle.provider_readings.specs.Attaching.{HasImage, IsAttachedOn, IsOpenedBy}
 use Rattle.readings.specs.Ever.{ever}
 use Rattle.readings.specs.Read.{read_sector}

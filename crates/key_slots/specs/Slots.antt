@@ -80,6 +80,17 @@ numbered (Some master) s = Some (master, s)
 abbrev pub unwrapped_any : Metadata → List ℕ → Option (MasterKey × ℕ)
 unwrapped_any m u = option_or (numbered (unwrapped m u 0) 0) (numbered (unwrapped m u 1) 1)
 
+-- the master key, and the number of its slot, that the user key u opens: of the named slot, or else of the first that
+-- opens
+abbrev pub opened : Metadata → List ℕ → Option ℕ → Option (MasterKey × ℕ)
+opened m u None = unwrapped_any m u
+opened m u (Some slot) = numbered (unwrapped m u slot) slot
+
+-- slot s opens with the user key u to this master key, and it is the one that is named, or else the first that opens
+abbrev pub OpensAsNamed : Metadata → List ℕ → Option ℕ → ℕ → List ℕ → Type 0
+OpensAsNamed m u None s master = IsFirstToOpen m u s master
+OpensAsNamed m u (Some slot) s master = (s ≡ slot) × Opens m u s master
+
 -- ---- changes of a slot
 
 -- the bytes of both slots, with these in the place of slot s

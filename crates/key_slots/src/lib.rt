@@ -7,6 +7,6 @@ mod opening;
 mod placing;
 mod wrapping;
 
-pub use opening::{unwrap, unwrap_any};
+pub use opening::{opened, unwrap, unwrap_any};
 pub use placing::{clear_slot, put_slot};
 pub use wrapping::wrap;

@@ -1,6 +1,7 @@
 //! A slot opened by a user key.
 ghost use Rattle.std.specs.Prelude.{◌≡◌, ℕ, ◌<◌, ◌↔◌, List, Some};
-ghost use Rattle.key_slots.specs.Slots.{IsFirstToOpen, IsKeyBits, Opens, slot_bytes, deciphered_slot, has_code, master_in, unwrapped, numbered, unwrapped_any};
+ghost use Rattle.std.specs.Option.{ForSome};
+ghost use Rattle.key_slots.specs.Slots.{IsFirstToOpen, IsKeyBits, Opens, OpensAsNamed, slot_bytes, deciphered_slot, has_code, master_in, unwrapped, numbered, opened, unwrapped_any};
 
 use crate::wrapping::{SLOT_SIZE, ZERO_VECTOR, check_code, wrapping_schedule};
 use cbc_mode::cbc_open;
@@ -89,4 +90,19 @@ pub fn unwrap_any(meta: &Metadata, key: &UserKey) -> Option<(MasterKey, u8)>
         None => unwrap_numbered(meta, key, 1),
         first => first,
     }
+}
+
+/// The master key, and the number of its slot, that a user key opens: of the named slot, or else of the first that
+/// opens. None exactly if the named slot doesn't open, or, if none is named, neither slot does.
+pub fn opened(meta: &Metadata, key: &UserKey, named: Option<u8>) -> Option<(MasterKey, u8)>
+    requires keylen { IsKeyBits meta.now.keylen }
+    requires named { ForSome named (λ slot. slot < 2) }
+    ensures answer { result ≡ opened meta.now key.now.bytes named }
+    ensures opens { (slot : ℕ) (master : List ℕ) → OpensAsNamed meta.now key.now.bytes named slot master ↔ (result ≡ Some (record { bytes = master }, slot)) }
+{
+    let Some(slot) = named else {
+        return unwrap_any(meta, key);
+    };
+    let master = unwrap(meta, key, slot)?;
+    Some((master, slot))
 }

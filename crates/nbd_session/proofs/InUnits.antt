@@ -10,7 +10,7 @@ use Rattle.eli_base.specs.declared.algorithms.Auth.{Auth}
 use Rattle.eli_base.specs.declared.algorithms.Auth.TheVariants.{Off, Sha256, Sha384, Sha512}
 use Rattle.eli_base.specs.Keying.{Keying}
 use Rattle.eli_base.specs.Units.{unit_bytes_of}
-use Rattle.provider.specs.Reading.{data_reading}
+use Rattle.sector_runs.specs.Reading.{data_reading}
 use Rattle.provider_readings.specs.Data.{survivor}
 use Rattle.provider_readings.proofs.Data.{survivor-reads}
 use Rattle.range_keys.specs.Ring.{IsKeying}

@@ -5,7 +5,7 @@ use Rattle.std.proofs.lemmas.List.{drop-drop}
 use Rattle.std.proofs.lemmas.Nat.{mod_below}
 use Rattle.std.specs.List.{AllByRecursion}
 use Rattle.aes_core.proofs.KeyBytes.{AreBytes-drop}
-use Rattle.provider.specs.Reading.{data_reading}
+use Rattle.sector_runs.specs.Reading.{data_reading}
 use Rattle.block_traits.specs.Content.{Content, kept_values}
 use Rattle.block_traits.specs.Crash.{IsTorn}
 use Rattle.block_traits.specs.Disk.{DiskState, Logs}

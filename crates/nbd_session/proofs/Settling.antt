@@ -10,7 +10,7 @@ use Rattle.block_traits.specs.Content.{Content, kept_values, present}
 use Rattle.block_traits.specs.Crash.{IsTorn}
 use Rattle.block_traits.proofs.Images.{held_when_settled}
 use Rattle.eli_base.specs.Keying.{Keying}
-use Rattle.provider.specs.Reading.{data_reading, sector_reading, sector_readings, standing}
+use Rattle.sector_runs.specs.Reading.{data_reading, sector_reading, sector_readings, standing}
 use Rattle.provider_readings.specs.Data.{survivor}
 use Rattle.provider_readings.proofs.Data.{survivor-reads}
 use Rattle.range_keys.specs.Ring.{IsKeying}

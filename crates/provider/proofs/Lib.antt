@@ -1,17 +1,4 @@
-pub mod Cuts
 pub mod Ranges
-pub mod Readings
-pub mod UnitLists
-pub mod FirstFaults
-pub mod Fours
-pub mod Events
-pub mod Batches
 pub mod Checked
-pub mod Sealed
 pub mod Told
-pub mod Adjoining
-pub mod InMemory
-pub mod Data
 pub mod OpenedSlots
-pub mod FourSectors
-pub mod Verdicts

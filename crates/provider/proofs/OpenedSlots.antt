@@ -2,7 +2,8 @@
 use Rattle.std.proofs.Common.{◌≡◌, Some, ℕ, ◌≤◌, List, IsSome, Bool, ◌||◌, refl, sym, ap, subst, ◌∙◌}
 use Rattle.eli_base.specs.declared.parameters.MasterKey.{MasterKey}
 use Rattle.provider.specs.Answers.{AttachFails, IsAttached, Means, Target, target_media}
-use Rattle.provider.specs.Attached.{Attached, OpensAsNamed, attached_with, opened}
+use Rattle.key_slots.specs.Slots.{OpensAsNamed, opened}
+use Rattle.provider.specs.Attached.{Attached, attached_with}
 use Rattle.provider.specs.Opening.{SlotOpens, SlotFails, params_media}
 use Rattle.provider.specs.declared.faults.AttachFault.{AttachFault}
 use Rattle.provider.specs.declared.faults.AttachFault.TheVariants as attach

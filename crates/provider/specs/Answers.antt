@@ -10,14 +10,15 @@ use Rattle.eli_metadata.specs.declared.metadata.Metadata.{Metadata}
 use Rattle.sealing.specs.Sectors.{units}
 use Rattle.provider.specs.declared.faults.AttachFault.{AttachFault}
 use Rattle.provider.specs.declared.faults.AttachFault.TheVariants as attach
-use Rattle.provider.specs.declared.faults.ReadFault.{ReadFault}
-use Rattle.provider.specs.declared.faults.ReadFault.TheVariants as read
+use Rattle.sector_runs.specs.declared.faults.ReadFault.{ReadFault}
+use Rattle.sector_runs.specs.declared.faults.ReadFault.TheVariants as read
 use Rattle.provider.specs.declared.faults.WriteFault.{WriteFault}
 use Rattle.provider.specs.declared.faults.WriteFault.TheVariants as write
-use Rattle.provider.specs.Attached.{Attached, OpensAsNamed, media, opened}
-use Rattle.provider.specs.Reading.{ReadsAs}
-use Rattle.provider.specs.Reads.{RunFails, RunFault}
-use Rattle.provider.specs.Writing.{data_writes}
+use Rattle.key_slots.specs.Slots.{OpensAsNamed, opened}
+use Rattle.provider.specs.Attached.{Attached, media}
+use Rattle.sector_runs.specs.Reading.{ReadsAs}
+use Rattle.sector_runs.specs.Reads.{RunFails, RunFault}
+use Rattle.sector_runs.specs.Writing.{data_writes}
 
 -- ---- attaching
 

@@ -1,5 +1,5 @@
 -- An attached provider: a disk whose data are read and written under a keying (geli(8), "attach").
-use Rattle.std.specs.Prelude.{◌≡◌, ℕ, ◌*◌, ◌/◌, max, Bool, true, false, ◌||◌, List, Option, Some, None}
+use Rattle.std.specs.Prelude.{◌≡◌, ℕ, ◌*◌, ◌/◌, max, Bool, true, false, ◌||◌}
 use Rattle.block_traits.specs.Disk.{DiskState}
 use Rattle.eli_base.specs.declared.algorithms.Auth.{Auth}
 use Rattle.eli_base.specs.declared.algorithms.Auth.TheVariants.{Off, Sha256, Sha384, Sha512}
@@ -7,8 +7,6 @@ use Rattle.eli_base.specs.declared.parameters.MasterKey.{MasterKey}
 use Rattle.eli_base.specs.declared.parameters.Params.{Params}
 use Rattle.eli_base.specs.Keying.{Keying, keying_of}
 use Rattle.eli_base.specs.Units.{media_sectors, units_per_sector}
-use Rattle.eli_metadata.specs.declared.metadata.Metadata.{Metadata}
-use Rattle.key_slots.specs.Slots.{IsFirstToOpen, Opens, numbered, unwrapped, unwrapped_any}
 
 -- a disk, its keying, the slot of the metadata that gave the master key, and whether it is read-only
 pub record Attached (D : Type 0) : Type 0 where
@@ -47,14 +45,3 @@ has_tags Sha512 = true
 -- many logical sectors as 32 KiB have room for, and of one at least
 abbrev pub buffer_bytes : Auth → ℕ → ℕ
 buffer_bytes auth sectorsize = let units = units_per_sector auth sectorsize in max 1 (64 / units) * (512 * units)
-
--- the master key, and the number of its slot, that the user key u opens: of the named slot, or else of the first that
--- opens
-abbrev pub opened : Metadata → List ℕ → Option ℕ → Option (MasterKey × ℕ)
-opened m u None = unwrapped_any m u
-opened m u (Some slot) = numbered (unwrapped m u slot) slot
-
--- slot s opens with the user key u to this master key, and it is the one that is named, or else the first that opens
-abbrev pub OpensAsNamed : Metadata → List ℕ → Option ℕ → ℕ → List ℕ → Type 0
-OpensAsNamed m u None s master = IsFirstToOpen m u s master
-OpensAsNamed m u (Some slot) s master = (s ≡ slot) × Opens m u s master

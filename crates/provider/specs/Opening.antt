@@ -5,7 +5,7 @@ use Rattle.eli_base.specs.Units.{media_sectors}
 use Rattle.eli_metadata.specs.declared.metadata.Metadata.{Metadata}
 use Rattle.provider.specs.declared.faults.AttachFault.{AttachFault}
 use Rattle.provider.specs.declared.faults.AttachFault.TheVariants as attach
-use Rattle.provider.specs.Attached.{OpensAsNamed, opened}
+use Rattle.key_slots.specs.Slots.{OpensAsNamed, opened}
 
 -- the logical sectors that the parameters leave room for
 abbrev pub params_media : Params → ℕ

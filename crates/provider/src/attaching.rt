@@ -1,35 +1,18 @@
 //! What is opened and reserved before a provider is attached.
-ghost use Rattle.std.specs.Prelude.{◌≡◌, ℕ, ◌*◌, ◌/◌, ◌<◌, ◌↔◌, max, List, IfOk, MatchResult, Ok, Some, vec_len};
-ghost use Rattle.std.specs.Option.{ForSome};
+ghost use Rattle.std.specs.Prelude.{◌≡◌, ◌*◌, ◌/◌, max, IfOk, MatchResult, Ok, vec_len};
 ghost use Rattle.eli_base.specs.Keying.{keying_of};
 ghost use Rattle.eli_metadata.specs.Checks.{settings_of, slot_matches, supported};
-ghost use Rattle.key_slots.specs.Slots.{IsKeyBits};
-ghost use Rattle.provider.specs.Attached.{OpensAsNamed, buffer_bytes, opened};
+ghost use Rattle.provider.specs.Attached.{buffer_bytes};
 ghost use Rattle.provider.specs.Opening.{SlotOpens, SlotFails, params_media};
 
 use crate::AttachFault;
 use block_traits::NoMemory;
 use eli_base::{Geometry, MasterKey, Params, SectorLayout};
 use eli_metadata::Metadata;
-use key_slots::{unwrap, unwrap_any};
+use key_slots::opened;
 use range_keys::KeyRing;
 use std::alloc::Global;
 use user_key::UserKey;
-
-/// The master key, and the number of its slot, that a user key opens: of the named slot, or else of the first that
-/// opens. None exactly if the named slot doesn't open, or, if none is named, neither slot does.
-pub fn opened(meta: &Metadata, key: &UserKey, named: Option<u8>) -> Option<(MasterKey, u8)>
-    requires keylen { IsKeyBits meta.now.keylen }
-    requires named { ForSome named (λ slot. slot < 2) }
-    ensures answer { result ≡ opened meta.now key.now.bytes named }
-    ensures opens { (slot : ℕ) (master : List ℕ) → OpensAsNamed meta.now key.now.bytes named slot master ↔ (result ≡ Some (record { bytes = master }, slot)) }
-{
-    let Some(slot) = named else {
-        return unwrap_any(meta, key);
-    };
-    let master = unwrap(meta, key, slot)?;
-    Some((master, slot))
-}
 
 /// A slot that a user key opened.
 #[derive(Clone, Copy)]

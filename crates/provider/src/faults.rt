@@ -1,4 +1,5 @@
 //! Why a call of a provider was refused.
+use sector_runs::ReadFault;
 use thiserror::Error;
 
 /// Why a provider wasn't attached.
@@ -27,23 +28,9 @@ pub struct OutOfRange {
     pub media: u64,
 }
 
-/// Why logical sectors weren't read.
-#[derive(Clone, Copy, Debug, PartialEq, Eq, Error)]
-pub enum ReadFault {
-    /// The request passes the end: its first sector, how many sectors it asks for, and how many there are.
-    #[error("sectors from {sector} on, {count} of them, pass the end at {media}")]
-    OutOfRange { sector: u64, count: u64, media: u64 },
-    /// The device failed.
-    #[error("the device failed")]
-    DeviceFault,
-    /// The tag of the unit at this byte offset of the device differs.
-    #[error("the tag at byte {offset} differs")]
-    Integrity { offset: u64 },
-}
-
 impl From<OutOfRange> for ReadFault {
     ghost use Rattle.std.specs.Prelude.{◌≡◌};
-    ghost use Rattle.provider.specs.declared.faults.ReadFault.TheVariants as read;
+    ghost use Rattle.sector_runs.specs.declared.faults.ReadFault.TheVariants as read;
 
     ghost from_gives = { λ past fault. fault ≡ read.OutOfRange past.sector past.count past.media };
 
@@ -93,12 +80,4 @@ impl From<OutOfRange> for WriteFault {
             media,
         }
     }
-}
-
-/// The tag of the unit at this byte offset of the device isn't that of its ciphertext.
-#[derive(Clone, Copy, Debug, PartialEq, Eq, Error)]
-#[error("the tag at byte {offset} differs")]
-pub struct BadUnit {
-    /// The unit's byte offset on the device.
-    pub offset: u64,
 }

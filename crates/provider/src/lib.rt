@@ -6,19 +6,11 @@
 
 mod attaching;
 mod faults;
-mod four_sectors;
-mod judged;
-mod judging;
 mod laws;
 mod provider;
-mod runs;
-mod sector_groups;
-mod sectors;
-mod tagged_units;
-mod units;
 
-pub use attaching::{OpenedSlot, open_slot, opened};
-pub use faults::{AttachFault, BadUnit, OutOfRange, ReadFault, WriteFault};
-pub use judged::Judged;
+pub use attaching::{OpenedSlot, open_slot};
+pub use faults::{AttachFault, OutOfRange, WriteFault};
 pub use laws::rest_tells_all;
 pub use provider::Provider;
+pub use sector_runs::{BadUnit, Judged, ReadFault};

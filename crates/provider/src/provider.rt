@@ -5,9 +5,9 @@
 //! call fails for want of it. Callers may rely on keying, slot and read-only state staying as they are (`IsKept`).
 //!
 //! A request is checked before the disk is called: a write first for read-only, then each for its range. A refused
-//! `read` leaves the caller's bytes all zeros, so nothing of a sector whose tag is wrong gets out. A `write` that the
-//! disk refuses has written a prefix of its sealed device sectors, in ascending order. A refused `attach` gives the
-//! disk back, and no call of it was made.
+//! `read` or `open_from` leaves the caller's bytes all zeros, so nothing of a sector whose tag is wrong gets out. A
+//! `write` that the disk refuses has written a prefix of its sealed device sectors, in ascending order. A refused
+//! `attach` gives the disk back, and no call of it was made.
 //!
 //! Data is sealed into the buffer and then written by as few calls of the disk as the buffer allows. So the buffer
 //! holds sealed bytes only, never plaintext, and needs no clearing.
@@ -18,22 +18,21 @@ ghost use Rattle.block_traits.specs.Parts.{parts};
 ghost use Rattle.eli_metadata.specs.Checks.{settings_of, size_matches, slot_matches, supported};
 ghost use Rattle.provider.specs.Answers.{AttachAnswers, Means, ReadAnswers, Target, WriteAnswers, request};
 ghost use Rattle.provider.specs.Attached.{IsKept, attached_with, has_tags, media};
-ghost use Rattle.provider.specs.Verdicts.{Judges};
 ghost use Rattle.provider.specs.Rest.{rest_of};
 ghost use Rattle.range_keys.specs.Ring.{IsKeying};
 ghost use Rattle.sealing.specs.Data.{opened_data, sealed_sectors};
-ghost use Rattle.sealing.specs.Sectors.{units};
+ghost use Rattle.sealing.specs.Sectors.{unit_reading_at, units};
+ghost use Rattle.sector_runs.specs.Verdicts.{Judges};
 
 use crate::attaching::{OpenedSlot, open_slot, reserve};
-use crate::judged::Judged;
-use crate::judging::judge;
-use crate::runs::{read_run, write_run};
-use crate::sector_groups::{open_sectors, seal_sectors};
-use crate::{AttachFault, BadUnit, OutOfRange, ReadFault, WriteFault};
+use crate::{AttachFault, OutOfRange, WriteFault};
 use block_traits::{Disk, DiskFailed, Event, MetaPlace, NoMemory, Sector, store_last};
 use eli_base::{Auth, Cipher, MasterKey, Params};
 use eli_metadata::Metadata;
 use range_keys::KeyRing;
+use sector_runs::{
+    BadUnit, Judged, ReadFault, judge, open_sectors, read_run, seal_sectors, write_run,
+};
 use std::alloc::Global;
 use std::marker::Model;
 use user_key::UserKey;
@@ -312,7 +311,7 @@ impl<D: Disk> Provider<D> {
     /// other. No call of the disk is made.
     ///
     /// `BadUnit` comes exactly if the tag of a unit isn't that of its ciphertext, with the byte offset of the first
-    /// such unit, and `out` is then as it was.
+    /// such unit, and `out` is then all zeros.
     pub fn open_from(&mut self, sector: u64, device: &[u8], out: &mut [u8]) -> Result<(), BadUnit>
         requires whole { length out.old % self.old.keying.sectorsize ≡ 0 }
         requires inside { sector + length out.old / self.old.keying.sectorsize ≤ media self.old.keying (D.state self.old.disk) }
@@ -320,10 +319,14 @@ impl<D: Disk> Provider<D> {
         ensures opened { let count = length out.old / self.old.keying.sectorsize in
             let answer = opened_data self.old.keying sector count (parts 512 (count * units self.old.keying) device.now) in
             MatchResult result (λ _. answer ≡ Ok out.new) (λ bad. answer ≡ Err bad.offset) }
-        ensures untouched { OnErr result (out.new ≡ out.old) }
+        ensures cleared { OnErr result (out.new ≡ replicate (length out.old) 0) }
         ensures stays { self.new ≡ self.old }
     {
-        open_sectors(&mut self.ring, sector, device, out)
+        let answer = open_sectors(&mut self.ring, sector, device, out);
+        if answer.is_err() {
+            out.fill(0);
+        }
+        answer
     }
 
     /// Reads device sector `n`, which has a unit of a logical sector. It is refused only if the device failed.
@@ -366,6 +369,17 @@ impl<D: Disk> Provider<D> {
         ensures { Judges self.now.keying n device.now result }
     {
         judge(&self.ring, n, device)
+    }
+
+    /// Whether these bytes are accepted as the unit in device sector `n`: whether the tag in them is that of their
+    /// ciphertext. No call of the disk is made.
+    pub fn unit_ok(&mut self, n: u64, from: &Sector) -> bool
+        requires on { self.old.keying.auth ≢ Auth.Off }
+        requires inside { n < media self.old.keying (D.state self.old.disk) * units self.old.keying }
+        ensures answer { result ≡ is_ok (unit_reading_at self.old.keying n from.now) }
+        ensures stays { self.new ≡ self.old }
+    {
+        self.judge(n, from).accepts(0)
     }
 
     /// Writes device sector `n`, which has a unit of a logical sector. It is refused only if the device failed. A

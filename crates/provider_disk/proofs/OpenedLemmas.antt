@@ -10,8 +10,8 @@ use Rattle.block_traits.specs.declared.disk.Event.TheVariants.{Write, Flush}
 use Rattle.block_traits.specs.Content.{Content, IsSector, logged, present}
 use Rattle.block_traits.specs.Disk.{DiskState, FailsIn, FitsSize, Logs, writes_from}
 use Rattle.eli_base.specs.Keying.{Keying}
-use Rattle.provider.specs.Reading.{data_reading, sector_reading, standing}
-use Rattle.provider.specs.Writing.{data_writes, sector_writes}
+use Rattle.sector_runs.specs.Reading.{data_reading, sector_reading, standing}
+use Rattle.sector_runs.specs.Writing.{data_writes, sector_writes}
 use Rattle.range_keys.specs.Ring.{IsKeying}
 use Rattle.sealing.specs.Sectors.{IsSingle, joined, reading, seal, units}
 use Rattle.sealing.proofs.Sectors.{length-seal, reading-seal}

@@ -9,8 +9,8 @@ use Rattle.eli_base.specs.Keying.{Keying}
 use Rattle.eli_base.specs.Units.{media_sectors}
 use Rattle.provider.specs.Answers.{ReadAnswers, request}
 use Rattle.provider.specs.Attached.{Attached}
-use Rattle.provider.specs.declared.faults.ReadFault.{ReadFault}
-use Rattle.provider.specs.declared.faults.ReadFault.TheVariants as fault
+use Rattle.sector_runs.specs.declared.faults.ReadFault.{ReadFault}
+use Rattle.sector_runs.specs.declared.faults.ReadFault.TheVariants as fault
 use Rattle.provider_readings.specs.Attaching.{HasImage, ReadsImage, image_data, image_sectors}
 use Rattle.provider_readings.specs.Data.{survivor}
 use Rattle.provider_readings.proofs.Attaching.{reads}

@@ -9,9 +9,9 @@ use Rattle.block_traits.specs.Disk.{DiskState, FailsIn, FitsSize, GivesFrom, Log
 use Rattle.eli_base.specs.Keying.{Keying}
 use Rattle.provider.specs.Answers.{FailsWrite, IsInRange, ReadAnswers, WriteAnswers, request}
 use Rattle.provider.specs.Attached.{Attached, media}
-use Rattle.provider.specs.Reading.{ReadsFrom}
-use Rattle.provider.specs.declared.faults.ReadFault.{ReadFault}
-use Rattle.provider.specs.declared.faults.ReadFault.TheVariants as read
+use Rattle.sector_runs.specs.Reading.{ReadsFrom}
+use Rattle.sector_runs.specs.declared.faults.ReadFault.{ReadFault}
+use Rattle.sector_runs.specs.declared.faults.ReadFault.TheVariants as read
 use Rattle.provider.specs.declared.faults.WriteFault.{WriteFault}
 use Rattle.provider.specs.declared.faults.WriteFault.TheVariants as write
 use Rattle.sealing.specs.Sectors.{IsSingle, units}

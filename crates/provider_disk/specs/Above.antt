@@ -7,8 +7,8 @@ use Rattle.block_traits.specs.Crash.{IsAltered, IsImage, IsTorn, IsUnsettled}
 use Rattle.block_traits.specs.Disk.{DiskState}
 use Rattle.eli_base.specs.Keying.{Keying}
 use Rattle.provider.specs.Answers.{SectorRequest}
-use Rattle.provider.specs.declared.faults.ReadFault.{ReadFault}
-use Rattle.provider.specs.declared.faults.ReadFault.TheVariants as fault
+use Rattle.sector_runs.specs.declared.faults.ReadFault.{ReadFault}
+use Rattle.sector_runs.specs.declared.faults.ReadFault.TheVariants as fault
 use Rattle.range_keys.specs.Ring.{IsKeying}
 use Rattle.readings.specs.Crashes.{IsFlushed, ReadsWithCauses, image_unit, image_units}
 use Rattle.readings.specs.Ever.{ever}

@@ -6,7 +6,7 @@ ghost use Rattle.block_traits.specs.Crash.{IsAltered, IsImage, IsTorn};
 ghost use Rattle.eli_base.specs.Keying.{Keying};
 ghost use Rattle.provider.specs.Answers.{ReadAnswers, request};
 ghost use Rattle.provider.specs.Attached.{Attached};
-ghost use Rattle.provider.specs.declared.faults.ReadFault.{ReadFault};
+ghost use Rattle.sector_runs.specs.declared.faults.ReadFault.{ReadFault};
 ghost use Rattle.provider_readings.specs.Attaching.{HasImage};
 ghost use Rattle.range_keys.specs.Ring.{IsKeying};
 ghost use Rattle.sealing.specs.Sectors.{IsSingle, reading};

@@ -19,11 +19,11 @@ use Rattle.hmac_kdf.specs.Hmac.{hmac512}
 use Rattle.key_slots.specs.Slots.{IsFirstToOpen, Opens, check_code}
 use Rattle.provider.specs.Answers.{AttachAnswers, ReadAnswers, request}
 use Rattle.provider.specs.Attached.{Attached}
-use Rattle.provider.specs.Reading as provider
+use Rattle.sector_runs.specs.Reading as provider
 use Rattle.provider.specs.declared.faults.AttachFault.{AttachFault}
 use Rattle.provider.specs.declared.faults.AttachFault.TheVariants as attach
-use Rattle.provider.specs.declared.faults.ReadFault.{ReadFault}
-use Rattle.provider.specs.declared.faults.ReadFault.TheVariants as read
+use Rattle.sector_runs.specs.declared.faults.ReadFault.{ReadFault}
+use Rattle.sector_runs.specs.declared.faults.ReadFault.TheVariants as read
 use Rattle.range_keys.specs.Ring.{IsKeying}
 use Rattle.readings.proofs.Survivors.{room, some-units}
 use Rattle.sealing.specs.Sectors.{joined, units}

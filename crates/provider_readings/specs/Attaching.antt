@@ -13,8 +13,8 @@ use Rattle.provider.specs.Answers.{SectorRequest}
 use Rattle.provider.specs.Attached.{Attached}
 use Rattle.provider.specs.declared.faults.AttachFault.{AttachFault}
 use Rattle.provider.specs.declared.faults.AttachFault.TheVariants as attach
-use Rattle.provider.specs.declared.faults.ReadFault.{ReadFault}
-use Rattle.provider.specs.declared.faults.ReadFault.TheVariants as read
+use Rattle.sector_runs.specs.declared.faults.ReadFault.{ReadFault}
+use Rattle.sector_runs.specs.declared.faults.ReadFault.TheVariants as read
 use Rattle.readings.specs.Crashes.{image_units}
 use Rattle.sealing.specs.Sectors.{joined}
 use Rattle.provider_readings.specs.Data.{survivor}

@@ -1,10 +1,10 @@
 //! Which calls a provider makes of a disk that lets itself be looked at: the fewest that its contracts allow. No clause
-//! counts looks.
+//! counts looks. And the calls that check or open device sectors in memory.
 use crate::common::{attached, made, read, write};
 use block_traits::{Disk, DiskFailed, Event, Sector, sector_of};
 use crash_disk::MemDisk;
 use eli_base::{Auth, Cipher, REQUEST_LIMIT};
-use provider::Provider;
+use provider::{BadUnit, Provider};
 use std::alloc::{AllocError, Global};
 use std::cell::Cell;
 use std::rc::Rc;
@@ -215,5 +215,91 @@ fn a_sweep(rt: HostRuntime) -> Result<(), Fail> {
     watched.calls.set(NONE);
     assert_eq!(&rt; failing(&mut watched, &mut found)?, 0);
     assert_eq!(&rt; watched.since(), Calls { looks: 4, ..NONE });
+    Ok(())
+}
+
+// A unit that stands on the disk.
+fn unit_at(watched: &mut Watched, n: u64) -> Result<Sector, Fail> {
+    let provider = &mut watched.provider;
+    let end = provider.sectors().checked_mul(provider.units());
+    if end.is_none_or(|end| n >= end) {
+        return Err(Fail::from("no such unit"));
+    }
+    let mut unit = [0; 512];
+    match provider.get_unit(n, &mut unit) {
+        Ok(()) => Ok(unit),
+        Err(_) => Err(Fail::from("the disk failed")),
+    }
+}
+
+// Whether these bytes are accepted as the unit in a device sector.
+fn accepts(watched: &mut Watched, n: u64, unit: &Sector) -> Result<bool, Fail> {
+    let provider = &mut watched.provider;
+    let end = provider.sectors().checked_mul(provider.units());
+    if !provider.authenticated() || end.is_none_or(|end| n >= end) {
+        return Err(Fail::from("no tags, or no such unit"));
+    }
+    Ok(provider.unit_ok(n, unit))
+}
+
+// A unit is accepted as it was written and where it stands, and with one changed byte or for another place it isn't.
+#[test]
+fn one_unit(rt: HostRuntime) -> Result<(), Fail> {
+    let mut watched = Watched::new(rt.alloc(), Auth::Sha256)?;
+    let run = bytes_of(rt.alloc(), 7, 8192)?;
+    assert!(&rt; write(&mut watched.provider, 0, &run)?.is_ok());
+    let unit = unit_at(&mut watched, 10)?;
+    watched.calls.set(NONE);
+    assert!(&rt; accepts(&mut watched, 10, &unit)?);
+    assert!(&rt; !accepts(&mut watched, 11, &unit)?);
+    assert!(&rt; !accepts(&mut watched, 1, &unit)?);
+    let mut changed = unit;
+    changed[100] ^= 1;
+    assert!(&rt; !accepts(&mut watched, 10, &changed)?);
+    assert_eq!(&rt; watched.since(), NONE);
+    Ok(())
+}
+
+// Opens logical sector 1 from its device sectors.
+fn opened(
+    watched: &mut Watched,
+    device: &[u8],
+    out: &mut [u8],
+) -> Result<Result<(), BadUnit>, Fail> {
+    let provider = &mut watched.provider;
+    let size = provider.sector_size() as usize;
+    let width = 512 * provider.units() as usize;
+    let count = out.len() / size;
+    if out.len() % size != 0
+        || count.checked_mul(width) != Some(device.len())
+        || provider.check_range(1, count as u64).is_err()
+    {
+        return Err(Fail::from("no whole sectors"));
+    }
+    Ok(provider.open_from(1, device, out))
+}
+
+// Device sectors are opened in memory, and if one unit is refused, nothing is left in the caller's bytes.
+#[test]
+fn nothing_is_left_of_a_bad_unit(rt: HostRuntime) -> Result<(), Fail> {
+    let mut watched = Watched::new(rt.alloc(), Auth::Sha256)?;
+    let run = bytes_of(rt.alloc(), 7, 8192)?;
+    assert!(&rt; write(&mut watched.provider, 0, &run)?.is_ok());
+    let mut device = bytes_of(rt.alloc(), 0, 9 * 512)?;
+    for j in 0..9 {
+        let unit = unit_at(&mut watched, 9 + j as u64)?;
+        device[512 * j..512 * j + 512].copy_from_slice(&unit);
+    }
+    watched.calls.set(NONE);
+    let mut out = [0x55; 4096];
+    assert_eq!(&rt; opened(&mut watched, &device, &mut out)?, Ok(()));
+    assert!(&rt; out == [7; 4096]);
+    device[8 * 512 + 100] ^= 1;
+    assert_eq!(&rt;
+        opened(&mut watched, &device, &mut out)?,
+        Err(BadUnit { offset: 512 * 17 })
+    );
+    assert!(&rt; out == [0; 4096]);
+    assert_eq!(&rt; watched.since(), NONE);
     Ok(())
 }

@@ -11,9 +11,9 @@ use Rattle.block_traits.specs.declared.disk.Event.TheVariants as event
 use Rattle.block_traits.proofs.Logs.{Logs-nothing, Logs-then, content-Logs}
 use Rattle.eli_base.specs.Keying.{Keying}
 use Rattle.provider.specs.Attached.{media}
-use Rattle.provider.specs.Reading.{StandFrom, standing}
-use Rattle.provider.specs.Writing.{data_writes}
-use Rattle.provider.proofs.Data.{reads_as, writes_all}
+use Rattle.sector_runs.specs.Reading.{StandFrom, standing}
+use Rattle.sector_runs.specs.Writing.{data_writes}
+use Rattle.sector_runs.proofs.Data.{reads_as, writes_all}
 use Rattle.range_keys.specs.Ring.{IsKeying}
 use Rattle.sealing.specs.Sectors.{seal, units}
 use Rattle.sealing.proofs.Sectors.{length-seal}

@@ -20,7 +20,7 @@ use Rattle.readings.specs.Read.{read_sector}
 use Rattle.readings.specs.Survivors.{AreSteps, content_media, placed}
 use Rattle.readings.specs.Writes.{AreStepsBelow, IsNumberedBelow, data_steps, raw_steps}
 use Rattle.readings.proofs.Readings.{unit_readings-read}
-use Rattle.provider.specs.Writing.{data_writes}
+use Rattle.sector_runs.specs.Writing.{data_writes}
 use Rattle.provider_readings.proofs.Data.{events_of-data}
 use Rattle.readings.proofs.Settled.{present-cell}
 use Rattle.readings.proofs.Writes.{AreStepsBelow-none, AreStepsBelow-raw, AreStepsBelow-write, events_of-raw}

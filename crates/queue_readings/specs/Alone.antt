@@ -5,7 +5,7 @@ use Rattle.block_traits.specs.declared.disk.Event.TheVariants as event
 use Rattle.eli_base.specs.Keying.{Keying}
 use Rattle.provider.specs.Answers.{IsWritten, SectorRequest}
 use Rattle.provider.specs.Attached.{media}
-use Rattle.provider.specs.Reading.{ReadsAs}
+use Rattle.sector_runs.specs.Reading.{ReadsAs}
 use Rattle.bio_queue.specs.Answers.{IsAsked, IsSubmitted, ReapAnswers, StepsOn, units_of}
 use Rattle.bio_queue.specs.declared.faults.ReapFault.{ReapFault}
 use Rattle.bio_queue.specs.declared.faults.ReapFault.TheVariants as reap

@@ -5,7 +5,7 @@ ghost use Rattle.block_traits.specs.Content.{Content, IsEventOf};
 ghost use Rattle.block_traits.specs.Disk.{DiskState, Logs};
 ghost use Rattle.block_traits.specs.declared.disk.Event.{Event};
 ghost use Rattle.eli_base.specs.Keying.{Keying};
-ghost use Rattle.provider.specs.Writing.{data_writes};
+ghost use Rattle.sector_runs.specs.Writing.{data_writes};
 ghost use Rattle.range_keys.specs.Ring.{IsKeying};
 ghost use Rattle.readings.specs.Steps.{Flush, Step};
 ghost use Rattle.readings.specs.Survivors.{AreSteps};

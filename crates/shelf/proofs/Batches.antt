@@ -7,7 +7,7 @@ use Rattle.block_traits.proofs.Logs.{Logs-then, content-Logs}
 use Rattle.command_rows.specs.Rows.{SectorsAnswer}
 use Rattle.command_rows.specs.Vocabulary.{Attached, Counted, DiskState, Event, IsKept, Keying, Logs, ReadsAs, Refusal, data_writes, media, media_sectors, units}
 use Rattle.eli_base.specs.declared.refusals.Refusal.TheVariants as refusals
-use Rattle.provider.proofs.Adjoining.{ReadsFrom-both, RunFails-behind, RunFault-behind, data_writes-more}
+use Rattle.sector_runs.proofs.Adjoining.{ReadsFrom-both, RunFails-behind, RunFault-behind, data_writes-more}
 use Rattle.rand_core.specs.Steps.{fill_via_u64}
 use Rattle.rand_pcg.specs.Lcg.{Lcg}
 use Rattle.rand_pcg.specs.Pcg.{pcg64}

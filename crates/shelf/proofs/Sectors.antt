@@ -9,8 +9,8 @@ use Rattle.command_rows.specs.Rows.{DoesEvents, IsAttached, NeedsSectors, NeedsW
 use Rattle.command_rows.specs.Vocabulary.{Attached, CabinetState, DiskState, EntropyState, FailsIn, IsKept, Logs, Refusal, Request, media}
 use Rattle.eli_base.specs.declared.refusals.Refusal.TheVariants as refusals
 use Rattle.provider.specs.Answers.{ReadAnswers, WriteAnswers, request}
-use Rattle.provider.specs.declared.faults.ReadFault.{ReadFault}
-use Rattle.provider.specs.declared.faults.ReadFault.TheVariants as read
+use Rattle.sector_runs.specs.declared.faults.ReadFault.{ReadFault}
+use Rattle.sector_runs.specs.declared.faults.ReadFault.TheVariants as read
 use Rattle.provider.specs.declared.faults.WriteFault.{WriteFault}
 use Rattle.provider.specs.declared.faults.WriteFault.TheVariants as write
 use Rattle.command_rows.specs.Turn.{ReadRow, WriteRow}

@@ -5,7 +5,7 @@ use Rattle.std.proofs.lemmas.Bool.Decides.{nat_tests}
 use Rattle.command_rows.specs.Rows.{Holding, Reach, StoresBytes, Then, reach_of}
 use Rattle.command_rows.specs.Vocabulary.{Attached, CabinetState, Counted, DiskState, EntropyState, IsAnswer, IsKept, KeepsFiles, Keying, ListsFailing, MayRefuse, Refusal, Request, Span, bytes_at, failing_units, faults_in, file_answer, has_tags, le64, le64s, media, media_sectors, refused_word, sectors_swept, sweep_at, unit_readings_at, units}
 use Rattle.eli_base.specs.declared.refusals.Refusal.TheVariants as refusals
-use Rattle.provider.specs.Reads.{FailsAmong}
+use Rattle.sector_runs.specs.Reads.{FailsAmong}
 use Rattle.reply_text.specs.Text.{numbers_in}
 use Rattle.reply_text.proofs.Offsets.{numbers_in-next}
 use Rattle.verify_sweep.specs.declared.sweeping.Swept.{Swept}

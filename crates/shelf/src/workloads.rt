@@ -7,7 +7,7 @@ ghost use Rattle.block_traits.specs.Cabinet.{CabinetState};
 ghost use Rattle.block_traits.specs.Disk.{FailsIn, Logs};
 ghost use Rattle.block_traits.specs.Streams.{EntropyState};
 ghost use Rattle.provider.specs.Attached.{IsKept, media};
-ghost use Rattle.provider.specs.Writing.{data_writes};
+ghost use Rattle.sector_runs.specs.Writing.{data_writes};
 ghost use Rattle.command_rows.specs.Requests.{handed_out};
 ghost use Rattle.command_rows.specs.Steps.{SectorsAnswer, in_range};
 ghost use Rattle.eli_base.specs.Requests.{request_limit};

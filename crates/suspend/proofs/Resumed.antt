@@ -3,10 +3,10 @@ use Rattle.std.proofs.Common.{◌≡◌, ◌≢◌, ◌⊎◌, inl, inr, ℕ, Bo
 use Rattle.std.proofs.lemmas.Slice.Eq.{bytes_eq-Decides}
 use Rattle.std.proofs.lemmas.Bool.{cases_Bool}
 use Rattle.eli_metadata.specs.declared.metadata.Metadata.{Metadata}
-use Rattle.key_slots.specs.Slots.{Opens}
+use Rattle.key_slots.specs.Slots.{Opens, OpensAsNamed}
 use Rattle.eli_base.specs.declared.parameters.MasterKey.{MasterKey}
 use Rattle.provider.specs.Answers.{Means, Target}
-use Rattle.provider.specs.Attached.{Attached, OpensAsNamed, attached_with}
+use Rattle.provider.specs.Attached.{Attached, attached_with}
 use Rattle.provider.specs.Opening.{SlotFails, SlotOpens, params_media}
 use Rattle.provider.specs.declared.faults.AttachFault.{AttachFault}
 use Rattle.provider.specs.declared.faults.AttachFault.TheVariants as attach

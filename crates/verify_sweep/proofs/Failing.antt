@@ -6,7 +6,7 @@ use Rattle.std.proofs.lemmas.List.Elements.{Contains-append_cases, Contains-appe
 use Rattle.block_traits.specs.Content.{Content}
 use Rattle.eli_base.specs.declared.algorithms.Auth.TheVariants.{Off}
 use Rattle.eli_base.specs.Keying.{Keying}
-use Rattle.provider.specs.Reading.{standing, units_read}
+use Rattle.sector_runs.specs.Reading.{standing, units_read}
 use Rattle.sealing.specs.Sectors.{unit_reading_at, unit_readings, units}
 use Rattle.sealing.proofs.TaggedUnitLaws.{length-unit_readings-tagged, unit_reading-alone}
 use Rattle.verify_sweep.specs.Parts.{units_read_from}

@@ -15,12 +15,12 @@ use Rattle.block_traits.proofs.Logs.{Logs-then, content-Logs}
 use Rattle.block_traits.proofs.PartLists.{length-parts}
 use Rattle.eli_base.specs.Keying.{Keying}
 use Rattle.eli_base.specs.Units.{media_sectors}
-use Rattle.provider.specs.Reading.{StandFrom, standing}
-use Rattle.provider.specs.Reads.{FailsAmong}
-use Rattle.provider.specs.Verdicts.{Judges, verdict}
-use Rattle.provider.specs.declared.judged.Judged.{Judged}
-use Rattle.provider.proofs.Cuts.{parts-add}
-use Rattle.provider.proofs.Data.{StandFrom-each}
+use Rattle.sector_runs.specs.Reading.{StandFrom, standing}
+use Rattle.sector_runs.specs.Reads.{FailsAmong}
+use Rattle.sector_runs.specs.Verdicts.{Judges, verdict}
+use Rattle.sector_runs.specs.declared.judged.Judged.{Judged}
+use Rattle.sector_runs.proofs.Cuts.{parts-add}
+use Rattle.sector_runs.proofs.Data.{StandFrom-each}
 use Rattle.range_keys.specs.Keys.{le64}
 use Rattle.sealing.specs.Sectors.{unit_reading_at, units}
 use Rattle.verify_sweep.specs.Sweeping.{Lists, ListsFailing, Looks, Sweep, SweepAnswers, failing_units, faults_in, le64s, unit_readings_at, refused_at, sectors_swept}

@@ -3,7 +3,7 @@ use Rattle.std.specs.Prelude.{ℕ, zero, suc, ◌+◌, ◌/◌, List, [], ◌∷
 use Rattle.std.specs.List.{range_with_len}
 use Rattle.block_traits.specs.Content.{Content}
 use Rattle.eli_base.specs.Keying.{Keying}
-use Rattle.provider.specs.Reading.{units_read}
+use Rattle.sector_runs.specs.Reading.{units_read}
 use Rattle.sealing.specs.Sectors.{units}
 use Rattle.verify_sweep.specs.Sweeping.{Sweep, sectors_swept}
 

@@ -5,8 +5,8 @@ use Rattle.block_traits.specs.Content.{IsSector}
 use Rattle.block_traits.specs.Disk.{DiskState, Logs}
 use Rattle.block_traits.specs.declared.disk.DiskFailed.{DiskFailed}
 use Rattle.eli_base.specs.Keying.{Keying}
-use Rattle.provider.specs.Reading.{StandFrom}
-use Rattle.provider.specs.Reads.{FailsAmong}
+use Rattle.sector_runs.specs.Reading.{StandFrom}
+use Rattle.sector_runs.specs.Reads.{FailsAmong}
 use Rattle.range_keys.specs.Keys.{le64}
 use Rattle.sealing.specs.Sectors.{unit_reading_at, units}
 use Rattle.verify_sweep.specs.declared.sweeping.Swept.{Swept}

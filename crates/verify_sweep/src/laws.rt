@@ -5,7 +5,7 @@ ghost use Rattle.std.specs.List.Sorted.{IsStrictlyIncreasing};
 ghost use Rattle.block_traits.specs.Content.{Content};
 ghost use Rattle.eli_base.specs.declared.algorithms.Auth.TheVariants.{Off};
 ghost use Rattle.eli_base.specs.Keying.{Keying};
-ghost use Rattle.provider.specs.Reading.{standing};
+ghost use Rattle.sector_runs.specs.Reading.{standing};
 ghost use Rattle.sealing.specs.Sectors.{units};
 ghost use Rattle.verify_sweep.specs.Sweeping.{Fails, failing_units, unit_readings_at};
 ghost use Rattle.verify_sweep.specs.Parts.{cut_count, place_after, sectors_after, units_read_from};

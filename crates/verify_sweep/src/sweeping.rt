@@ -5,7 +5,7 @@ ghost use Rattle.block_traits.specs.Parts.{parts};
 ghost use Rattle.eli_base.specs.declared.algorithms.Auth.TheVariants.{Off};
 ghost use Rattle.eli_base.specs.Requests.{request_limit};
 ghost use Rattle.provider.specs.Attached.{IsKept, media};
-ghost use Rattle.provider.specs.Reads.{FailsAt};
+ghost use Rattle.sector_runs.specs.Reads.{FailsAt};
 ghost use Rattle.sealing.specs.Sectors.{units};
 ghost use Rattle.verify_sweep.specs.Sweeping.{Lists, Looks, Sweep, SweepAnswers, failing_units, refused_at};
 

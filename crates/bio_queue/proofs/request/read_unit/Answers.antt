@@ -1,6 +1,6 @@
 use Rattle.std.proofs.Common.{◌≡◌, ◌∷◌, ◌++◌, [], List, ℕ, length, ap, ◌∙◌, arith}
 use Rattle.block_traits.specs.Parts.{parts}
-use Rattle.provider.proofs.Cuts.{parts-put}
+use Rattle.sector_runs.proofs.Cuts.{parts-put}
 use Rattle.bio_queue.proofs.request.read_unit.Goals as goal
 
 pub returns-clause-read : goal.returns-clause-read

@@ -1,5 +1,5 @@
 use Rattle.std.proofs.Common.{◌+◌, ◌/◌, Bool, [], ◌∷◌, length, subst, arith}
-use Rattle.provider.specs.Verdicts.{verdict}
+use Rattle.sector_runs.specs.Verdicts.{verdict}
 use Rattle.verify_sweep.specs.Sweeping.{Lists, refused_at}
 use Rattle.verify_sweep.proofs.Listing.{Lists-judged, refused_few, unit_small}
 use Rattle.verify_sweep.proofs.sweeping.list_next.Goals as goal

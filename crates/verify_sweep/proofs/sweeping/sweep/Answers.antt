@@ -4,7 +4,7 @@ use Rattle.block_traits.proofs.Logs.{FailsIn-then}
 use Rattle.eli_base.specs.Keying.{Keying}
 use Rattle.eli_base.specs.Units.{media_sectors}
 use Rattle.provider.specs.Attached.{media}
-use Rattle.provider.specs.Reads.{FailsAmong}
+use Rattle.sector_runs.specs.Reads.{FailsAmong}
 use Rattle.sealing.specs.Sectors.{units}
 use Rattle.verify_sweep.specs.Sweeping.{Looks, Sweep}
 use Rattle.verify_sweep.proofs.Listing.{ListsFailing-next, few_failing, sweep_fails, unit_small, units_within}

@@ -3,7 +3,7 @@ use Rattle.block_traits.specs.Disk.{FailsIn}
 use Rattle.block_traits.specs.declared.disk.Event.{Event}
 use Rattle.std.proofs.lemmas.List.{take_at}
 use Rattle.block_traits.specs.Parts.{parts}
-use Rattle.provider.proofs.UnitLists.{on_err_so}
+use Rattle.sector_runs.proofs.UnitLists.{on_err_so}
 use Rattle.bio_queue.specs.Requests.{Request, step_events}
 use Rattle.bio_queue.specs.declared.request.OpenRequest.TheInside.{Inside}
 use Rattle.bio_queue.proofs.Held.{StepGives, events-flush, events-read, events-write, logs_as, seen, stepped-flush, stepped-read, stepped-write}

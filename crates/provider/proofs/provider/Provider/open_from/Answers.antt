@@ -2,8 +2,8 @@ use Rattle.std.proofs.Common.{arith}
 use Rattle.provider.proofs.Ranges.{request_inside}
 use Rattle.provider.proofs.provider.Provider.open_from.Goals as goal
 
-pub open_sectors-requires-clause-place : goal.open_sectors-requires-clause-place
-open_sectors-requires-clause-place g c =
+pub open_sectors-answer-requires-clause-place : goal.open_sectors-answer-requires-clause-place
+open_sectors-answer-requires-clause-place g c =
     let at = rw (← c.self.view_is) at c.requires.inside in
     let d = g.D.Disk.state c.self.inside.disk in
     omega (arith, request_inside c.self.inside.ring.keying c.args.sector _ d.size at, d.well_formed.bound)

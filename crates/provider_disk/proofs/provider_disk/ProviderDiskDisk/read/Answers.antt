@@ -1,7 +1,7 @@
 -- What the provider reads is what the disk upon it reports.
 use Rattle.std.proofs.Common.{[], Result, refl, subst}
 use Rattle.provider.specs.Answers.{ReadAnswers, request}
-use Rattle.provider.specs.declared.faults.ReadFault.{ReadFault}
+use Rattle.sector_runs.specs.declared.faults.ReadFault.{ReadFault}
 use Rattle.provider_disk.proofs.UponLemmas.{upon_one, fails_upon, count_of, fails_once, gives_opened, read_fails, reads_once}
 use Rattle.provider_disk.proofs.provider_disk.ProviderDiskDisk.read.Goals as goal
 

@@ -2,7 +2,7 @@
 use Rattle.std.proofs.Common.{◌-◌, ◌/◌, [], ◌∷◌, length, Result, refl, subst}
 use Rattle.block_traits.specs.declared.disk.Event.TheVariants.{Write}
 use Rattle.provider.specs.Answers.{WriteAnswers, request}
-use Rattle.provider.specs.Writing.{data_writes}
+use Rattle.sector_runs.specs.Writing.{data_writes}
 use Rattle.provider.specs.declared.faults.WriteFault.{WriteFault}
 use Rattle.provider_disk.proofs.OpenedLemmas.{opened-writes}
 use Rattle.provider_disk.proofs.UponLemmas.{upon_one, logs_upon, fails_upon, count_of, write_fails}

@@ -1,0 +1,14 @@
+pub mod Cuts
+pub mod Ranges
+pub mod Readings
+pub mod UnitLists
+pub mod FirstFaults
+pub mod Fours
+pub mod Events
+pub mod Batches
+pub mod Sealed
+pub mod Adjoining
+pub mod InMemory
+pub mod Data
+pub mod FourSectors
+pub mod Verdicts

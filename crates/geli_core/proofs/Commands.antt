@@ -4,7 +4,7 @@ use Rattle.std.proofs.lemmas.List.{append-nil}
 use Rattle.command_rows.specs.Rows.{Answer}
 use Rattle.command_rows.specs.Vocabulary.{Command, SinkState, SourceState, TookAll, TookPart}
 use Rattle.command_words.specs.declared.spans.Sep.TheVariants.{Blanks, Zeros}
-use Rattle.reply_text.proofs.Printing.{TookAll-nothing, TookAll-then}
+use Rattle.text_page.proofs.Printing.{TookAll-nothing, TookAll-then}
 use Rattle.geli_core.specs.Run.{PrintsAnswer, ServesAndPrints, ServesLine, ServesReading, answers_text, any_refused, closing_answers, end_of, is_refusal, refuses, text_of}
 use Rattle.geli_core.specs.Script.{EndsCommand, PrintsAnswers, PrintsUsage, Runs, RunsAs, RunsCommand, RunsLine, Whole}
 use Rattle.geli_core.specs.Served.{ClosesAndPrints, RunsUnless, SiteState, Traced, status_by, whole_of}

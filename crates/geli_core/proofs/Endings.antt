@@ -11,7 +11,7 @@ use Rattle.std.proofs.lemmas.Grind.{flat_map-append}
 use Rattle.std.proofs.lemmas.List.Folds.{list_any-append}
 use Rattle.std.specs.Io.KnownBytes.{IsAtEnd, prepend_known}
 use Rattle.command_words.specs.declared.spans.Sep.TheVariants.{Blanks}
-use Rattle.reply_text.proofs.Printing.{TookAll-then}
+use Rattle.text_page.proofs.Printing.{TookAll-then}
 use Rattle.geli_core.specs.Lines.{CutsInto, last_line}
 use Rattle.geli_core.specs.Run.{FailsInLast, ServesAndPrints, ServesLine, answers_text, any_refused, closing_answers, is_refusal, refuses, text_of}
 use Rattle.geli_core.specs.Script.{MetEnd, MetNothing, MetRefusal, RunsScript, script_limit}

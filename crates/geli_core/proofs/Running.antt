@@ -9,7 +9,7 @@ use Rattle.command_rows.specs.Vocabulary.{Command, SinkState, TookAll}
 use Rattle.eli_base.specs.declared.refusals.Refusal.TheVariants as refusals
 use Rattle.command_words.specs.declared.spans.Sep.TheVariants.{Blanks}
 use Rattle.command_rows.specs.Answer as answers
-use Rattle.reply_text.proofs.Printing.{TookAll-nothing, TookAll-then}
+use Rattle.text_page.proofs.Printing.{TookAll-nothing, TookAll-then}
 use Rattle.geli_core.specs.Lines.{CutsInto, ended, newline}
 use Rattle.geli_core.specs.Trace.{Run, ServedLine, answers_of, lines_of}
 use Rattle.geli_core.specs.Run.{FailsInLast, PrintsAnswer, ServesAndPrints, ServesLine, ServesReading, answers_text, any_refused, end_of, is_refusal, refuses, text_of}

@@ -13,7 +13,8 @@ use crate::site::Site;
 use block_traits::{Cabinet, Disk, Entropy, Sink};
 use command_words::{Command, Sep, read_line};
 use eli_base::Refusal;
-use reply_text::{Reply, WriteEnd, write_reply};
+use reply_text::{Reply, write_reply};
+use text_page::WriteEnd;
 
 /// How a line ended.
 #[derive(Clone, Copy, Debug, PartialEq, Eq)]

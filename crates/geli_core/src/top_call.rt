@@ -18,9 +18,9 @@ use crate::outside::Outside;
 use crate::site::Site;
 use block_traits::{Cabinet, Disk, Entropy, Sink, Source};
 use command_words::{Command, LINE_LIMIT, Words, read_words};
-use reply_text::write_text;
 use shelf::{Drawers, Shelf};
 use std::alloc::Global;
+use text_page::write_text;
 
 const USAGE: &[u8] = b"usage: geli script IMAGE... or geli VERB ...\n";
 

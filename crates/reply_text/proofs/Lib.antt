@@ -1,4 +1,3 @@
 pub mod Digits
 pub mod Pieces
-pub mod Printing
 pub mod Offsets

@@ -1,6 +1,6 @@
 use Rattle.std.proofs.Common.{◌≡◌, [], rules}
-use Rattle.reply_text.proofs.Printing.{Puts-given}
-use Rattle.reply_text.proofs.page.put.Goals as goal
+use Rattle.text_page.proofs.Printing.{Puts-given}
+use Rattle.text_page.proofs.page.put.Goals as goal
 
 pub returns : goal.returns
 returns g c =

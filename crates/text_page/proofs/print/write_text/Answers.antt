@@ -1,8 +1,8 @@
 use Rattle.std.proofs.Common.{◌-◌, length, drop, arith, length-drop}
 use Rattle.std.proofs.Math.Seq.{take-add}
 use Rattle.std.proofs.lemmas.List.{take_all}
-use Rattle.reply_text.proofs.Printing.{TookAll-then}
-use Rattle.reply_text.proofs.print.write_text.Goals as goal
+use Rattle.text_page.proofs.Printing.{TookAll-then}
+use Rattle.text_page.proofs.print.write_text.Goals as goal
 
 pub loop-given-preserved : goal.loop-given-preserved
 loop-given-preserved g c =

@@ -1,17 +1,17 @@
 //! A page on which texts are gathered, so that the sink is given few pieces.
 ghost use Rattle.std.specs.Prelude.{◌≡◌, [], OnOk};
-ghost use Rattle.reply_text.specs.Output.{Prints, Puts};
+ghost use Rattle.text_page.specs.Output.{Prints, Puts};
 
 use crate::{WriteEnd, write_text};
 use arrayvec::ArrayVec;
 use block_traits::Sink;
 
 /// Texts that are still to be given to the sink, at most `N` bytes.
-pub(crate) type Page<const N: usize> = ArrayVec<u8, N>;
+pub type Page<const N: usize> = ArrayVec<u8, N>;
 
 /// Adds a text to those on the page. If the page has no room for it, the sink is given the page
 /// first.
-pub(crate) fn put<K: Sink, const N: usize>(
+pub fn put<K: Sink, const N: usize>(
     text: &[u8],
     page: &mut Page<N>,
     output: &mut K,
@@ -29,7 +29,7 @@ pub(crate) fn put<K: Sink, const N: usize>(
 }
 
 /// Gives the page to the sink, and clears it.
-pub(crate) fn give_page<K: Sink, const N: usize>(
+pub fn give_page<K: Sink, const N: usize>(
     page: &mut Page<N>,
     output: &mut K,
 ) -> Result<(), WriteEnd>

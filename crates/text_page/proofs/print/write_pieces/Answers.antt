@@ -1,6 +1,6 @@
 use Rattle.std.proofs.Common.{◌+◌, []}
-use Rattle.reply_text.proofs.Printing.{Puts-failed, PutsAll-then, PutsPart-more, PutsPart-then, concat-more, concat-split}
-use Rattle.reply_text.proofs.print.write_pieces.Goals as goal
+use Rattle.text_page.proofs.Printing.{Puts-failed, PutsAll-then, PutsPart-more, PutsPart-then, concat-more, concat-split}
+use Rattle.text_page.proofs.print.write_pieces.Goals as goal
 
 pub returns-in_err-put : goal.returns-in_err-put
 returns-in_err-put g c =

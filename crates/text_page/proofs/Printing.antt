@@ -8,8 +8,8 @@ use Rattle.std.specs.List.{concat}
 use Rattle.std.specs.Io.KnownBytes.{append_known}
 use Rattle.block_traits.specs.Causes.{Counted}
 use Rattle.block_traits.specs.Streams.{SinkState, TookAll, TookPart}
-use Rattle.reply_text.specs.declared.print.WriteEnd.{WriteEnd}
-use Rattle.reply_text.specs.Output.{Prints, Puts, PutsAll, PutsPart}
+use Rattle.text_page.specs.declared.print.WriteEnd.{WriteEnd}
+use Rattle.text_page.specs.Output.{Prints, Puts, PutsAll, PutsPart}
 
 append_known-then : (known : Option (List ℕ)) (first second : List ℕ) → append_known (append_known known first) second ≡ append_known known (first ++ second)
 append_known-then None first second = refl

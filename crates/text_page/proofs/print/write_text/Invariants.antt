@@ -1,6 +1,6 @@
 use Rattle.std.proofs.Common.{◌≤◌, ◌-◌, length, take}
 use Rattle.block_traits.specs.Streams.{TookAll}
-use Rattle.reply_text.proofs.print.write_text.Given as goal
+use Rattle.text_page.proofs.print.write_text.Given as goal
 
 abbrev pub invariant-loop-given : goal.invariant-loop-given
 invariant-loop-given g l =

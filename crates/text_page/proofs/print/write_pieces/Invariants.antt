@@ -1,7 +1,7 @@
 use Rattle.std.proofs.Common.{map, take}
 use Rattle.std.specs.List.{concat}
-use Rattle.reply_text.specs.Output.{PutsAll}
-use Rattle.reply_text.proofs.print.write_pieces.Given as goal
+use Rattle.text_page.specs.Output.{PutsAll}
+use Rattle.text_page.proofs.print.write_pieces.Given as goal
 
 -- the pieces so far were printed
 abbrev pub invariant-loop-piece : goal.invariant-loop-piece

@@ -12,7 +12,6 @@ mod pass;
 mod settings;
 mod spans;
 mod table;
-mod values;
 mod verbs;
 mod words;
 

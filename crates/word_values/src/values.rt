@@ -3,7 +3,7 @@ ghost use Rattle.std.specs.Prelude.{◌≡◌, ◌≤◌, ◌<◌, ◌+◌, ◌*
 ghost use Rattle.std.specs.Char.{is_ascii_digit, is_ascii_hexdigit};
 ghost use Rattle.std.specs.List.{list_all};
 ghost use Rattle.std.specs.Option.{SomeIff};
-ghost use Rattle.command_words.specs.Values.{decimal, is_numeral, number_within, old_size_named, is_hexadecimal, auth_named, cipher_named};
+ghost use Rattle.word_values.specs.Values.{decimal, is_numeral, number_within, old_size_named, is_hexadecimal, auth_named, cipher_named};
 
 use eli_base::{Auth, Cipher};
 

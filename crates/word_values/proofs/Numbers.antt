@@ -2,7 +2,7 @@
 use Rattle.std.proofs.Common.{◌≡◌, ℕ, ◌+◌, ◌-◌, ◌*◌, ◌^◌, List, [], ◌∷◌, ◌++◌, length, take, get_or, sym, ◌∙◌, ap, arith, length-append, add-one}
 use Rattle.std.proofs.Math.Nat.{pow-suc}
 use Rattle.std.proofs.lemmas.List.{take_more, take_all}
-use Rattle.command_words.specs.Values.{decimal}
+use Rattle.word_values.specs.Values.{decimal}
 
 power_more : (n : ℕ) → 10 ^ (n + 1) ≡ 10 ^ n * 10
 power_more n = rw add-one (pow-suc 10 n)

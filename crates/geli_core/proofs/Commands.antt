@@ -11,8 +11,8 @@ use Rattle.geli_core.specs.Served.{ClosesAndPrints, RunsUnless, SiteState, Trace
 use Rattle.geli_core.specs.Trace.{Trace}
 use Rattle.geli_core.specs.Vocabulary.{ClosesWorld, Usage, WriteEnd, command_in, line_limit, line_of, line_reading, said, script_images}
 use Rattle.geli_core.specs.declared.serving.LineEnd.{LineEnd}
-use Rattle.geli_core.specs.declared.status.Status.{Status}
-use Rattle.geli_core.specs.declared.status.Status.TheVariants.{Done, SomeRefused, BadWords, ReadFault, WriteFault, NoMemory, LineTooLong, ScriptTooLong}
+use Rattle.run_status.specs.declared.status.Status.{Status}
+use Rattle.run_status.specs.declared.status.Status.TheVariants.{Done, SomeRefused, BadWords, ReadFault, WriteFault, NoMemory, LineTooLong, ScriptTooLong}
 use Rattle.geli_core.proofs.Running.{refuses-end, served_line}
 
 -- what a line reads as that says a command

@@ -21,8 +21,8 @@ use Rattle.std.specs.List.{AllByRecursion}
 use Rattle.geli_core.specs.Vocabulary.{ClosesWorld, WriteEnd, line_limit}
 use Rattle.geli_core.specs.declared.feeding.Stop.TheVariants.{TooLong, Unprinted}
 use Rattle.geli_core.specs.declared.serving.LineEnd.{LineEnd}
-use Rattle.geli_core.specs.declared.status.Status.{Status}
-use Rattle.geli_core.specs.declared.status.Status.TheVariants.{Done, SomeRefused, BadWords, ReadFault, WriteFault, NoMemory, LineTooLong, ScriptTooLong}
+use Rattle.run_status.specs.declared.status.Status.{Status}
+use Rattle.run_status.specs.declared.status.Status.TheVariants.{Done, SomeRefused, BadWords, ReadFault, WriteFault, NoMemory, LineTooLong, ScriptTooLong}
 use Rattle.geli_core.proofs.Running.{Run-more, all_more, answers_of-more, failed_more, lines_of-more, refused_more, served_line, took_more}
 
 last_line-some : (line : List ℕ) → 1 ≤ length line → last_line line ≡ line ∷ []

@@ -9,7 +9,6 @@ ghost use Rattle.geli_core.specs.Script.{MetNothing, RunsScript, script_limit};
 ghost use Rattle.geli_core.specs.Served.{ClosesAndPrints, EndsLines, FeedsUpTo, IsServed, SiteState, StopsWithin, Traced, status_by, whole_of};
 ghost use Rattle.geli_core.specs.Sites.{BorrowsAsBefore, site_now};
 
-use crate::Status;
 use crate::feeding::{Ending, Stop};
 use crate::serving::either;
 use crate::site::Site;
@@ -17,6 +16,7 @@ use block_traits::{Cabinet, Disk, Entropy, Sink};
 use command_words::Sep;
 use eli_base::Refusal;
 use reply_text::{Reply, write_reply};
+use run_status::Status;
 use text_page::WriteEnd;
 
 // Prints a refusal for each flush that failed.

@@ -9,7 +9,7 @@ ghost use Rattle.geli_core.specs.Lawful.{RunsLawfully};
 ghost use Rattle.geli_core.specs.Run.{ServesLine};
 ghost use Rattle.geli_core.specs.Script.{Ends, StatusHasCause, Whole};
 ghost use Rattle.geli_core.specs.Trace.{Run, ServedLine};
-ghost use Rattle.geli_core.specs.declared.status.Status.{Status};
+ghost use Rattle.run_status.specs.declared.status.Status.{Status};
 ghost use Rattle.command_rows.specs.Answer.{Answer};
 ghost use Rattle.command_rows.specs.World.{DrawerState, World};
 

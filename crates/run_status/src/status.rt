@@ -1,6 +1,6 @@
 //! How a run ended.
 ghost use Rattle.std.specs.Prelude.{◌≡◌};
-ghost use Rattle.geli_core.specs.Status.{status_number};
+ghost use Rattle.run_status.specs.Status.{status_number};
 
 /// How a run ended. Each status has a number, with which the program exits.
 #[derive(Clone, Copy, Debug, PartialEq, Eq)]

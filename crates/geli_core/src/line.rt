@@ -4,10 +4,10 @@ ghost use Rattle.command_words.specs.Reading.{line_limit};
 ghost use Rattle.shelf.specs.Shelved.{world_of};
 ghost use Rattle.geli_core.specs.Laws.{ServesLawfully};
 
-use crate::serving::LineEnd;
 use crate::site::Site;
 use block_traits::{Cabinet, Disk, Entropy, Sink};
 use command_words::Sep;
+use reply_text::LineEnd;
 use shelf::Drawers;
 use text_page::WriteEnd;
 

@@ -8,7 +8,7 @@ use Rattle.reply_text.specs.Text.{bad_line, bad_lines, numbers_in}
 use Rattle.text_page.proofs.Printing.{concat-more, concat-split}
 
 -- as many numbers as were asked for
-length-numbers_in : (count : ℕ) (bytes : List ℕ) → length (numbers_in count bytes) ≡ count
+pub length-numbers_in : (count : ℕ) (bytes : List ℕ) → length (numbers_in count bytes) ≡ count
 unfolding numbers_in
 length-numbers_in zero bytes = refl
 length-numbers_in (suc count) bytes = ap suc (length-numbers_in count (drop 8 bytes))

@@ -1,10 +1,11 @@
 -- A whole reply: what one command reports, as data.
 use Rattle.std.specs.Prelude.{ℕ, [], ◌∷◌, List, codes, length, take}
+use Rattle.eli_base.specs.declared.refusals.Refusal.{Refusal}
+use Rattle.eli_metadata.specs.declared.metadata.Metadata.{Metadata}
 use Rattle.reply_text.specs.Text.{bytes_text, dump_text, list_text, numbers_in, numbers_line, refusal_text, verified_text}
 use Rattle.reply_text.specs.declared.reply.Reply.{Reply}
 use Rattle.reply_text.specs.declared.reply.Reply.TheVariants as replies
 use Rattle.reply_text.specs.declared.rows.Row.{Row}
-use Rattle.command_rows.specs.Vocabulary.{Metadata, Refusal}
 
 -- the command was done; bytes that were read; a digest; the drawers; the metadata; the tag of a request; the units that
 -- are left of one; the offsets of the units that fail, and where the next sweep begins; or the command was refused

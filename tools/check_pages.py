@@ -55,12 +55,13 @@ STAY = {
     "block_traits": ["sectors_written_from_the_last_on"],
     "eli_metadata": ["hash_ignored", "bytes_behind_the_magic_accepted"],
     "file_edge": ["look_is_counted"],
-    "geli_core": ["always_a_read_fault", "always_a_write_fault", "always_a_device_fault"],
+    "geli_core": ["always_a_read_fault", "always_a_device_fault"],
     "key_commands": ["fresh_master_key_wrapped", "slot_cleared_before_the_new_key", "wrapped_bytes_left_in_a_slot"],
     "key_slots": ["always_a_wrong_key", "sealed_by_xts"],
     "provider": [
         "flush_without_a_device_flush", "device_fault_for_good", "read_fault_for_good", "flush_fault_for_good"],
     "range_keys": ["range_key_0_everywhere", "one_tag_key_for_all_offsets", "key_of_another_number_lent"],
+    "reply_text": ["always_a_write_fault"],
     "resize_kill": ["old_place_destroyed_before_the_new_is_flushed"],
     "sector_runs": [
         "sectors_kept_in_memory", "failed_look_is_counted", "look_given_though_a_tag_differs",

@@ -1,6 +1,6 @@
 -- What is proved of each verb, as one value, and how a row says so by its answer.
 use Rattle.std.proofs.Common.{Bool, Err, List, None, Ok, Option, Result, [], false, inr, subst, sym, ℕ, ◌≡◌}
-use Rattle.command_rows.specs.Answer as answers
+use Rattle.reply_text.specs.Answer as answers
 use Rattle.command_rows.specs.Becoming.{Becomes, changes_requests}
 use Rattle.command_rows.specs.Causes.{LineHasCause}
 use Rattle.command_rows.specs.Fits.{FitsRow}

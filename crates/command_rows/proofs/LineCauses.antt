@@ -1,6 +1,6 @@
 -- Why each line is refused.
 use Rattle.eli_base.specs.declared.refusals.Refusal.TheVariants as refusals
-use Rattle.command_rows.specs.Answer as answers
+use Rattle.reply_text.specs.Answer as answers
 use Rattle.command_rows.specs.Causes.{Caused, CausedAt, LineHasCause}
 use Rattle.command_rows.specs.Rows.{DrawerState, Reach, World}
 use Rattle.command_rows.specs.Vocabulary.{Command, Refusal}

@@ -1,7 +1,7 @@
 -- What each line counts, and that what is attached keeps its keying.
 use Rattle.std.proofs.Common.{Err, List, Some, ap, arith, ℕ, ◌≡◌}
 use Rattle.eli_base.specs.declared.refusals.Refusal.TheVariants as refusals
-use Rattle.command_rows.specs.Answer as answers
+use Rattle.reply_text.specs.Answer as answers
 use Rattle.command_rows.specs.Counts.{CountsAnswer, CountsFailures}
 use Rattle.command_rows.specs.Gate.{Needs, needs, refused_by}
 use Rattle.command_rows.specs.Rows.{Answer, DrawerState, Holding, Reach, World, done_or}

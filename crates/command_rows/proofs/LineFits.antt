@@ -1,7 +1,7 @@
 -- That nothing refuses a line that finds what it needs.
 use Rattle.std.proofs.Common.{List, Option, Some, refl, subst, ℕ, ◌≡◌, IsTrue, MatchOption}
 use Rattle.eli_base.specs.declared.refusals.Refusal.TheVariants as refusals
-use Rattle.command_rows.specs.Answer as answers
+use Rattle.reply_text.specs.Answer as answers
 use Rattle.command_rows.specs.Causes.{Caused, CausedAt, CausedBy, LineHasCause, may_lack_memory}
 use Rattle.command_rows.specs.Fits.{FailsNowhere, FindsAt, Fits}
 use Rattle.command_rows.specs.Rows.{DrawerState, Reach, World, place_of}

@@ -1,10 +1,7 @@
--- What the answer of a row comes to as a reply, whatever it is, and its text.
-use Rattle.std.proofs.Common.{◌≡◌, ◌∙◌, ℕ, zero, suc, List, length, drop, refl, ap, sym, subst, Option, Some, None, Result, Ok, Err}
-use Rattle.reply_text.specs.Text.{numbers_in, reply_text, verified_text}
-use Rattle.reply_text.specs.declared.reply.Reply.{Reply}
-use Rattle.reply_text.specs.declared.reply.Reply.TheVariants as replies
-use Rattle.command_rows.specs.Answer as answers
-use Rattle.command_rows.specs.Rows.{Answer, answer_of, answer_text, digest_or, done_or, dump_or, left_or, payload_or, reaped_or, tag_or}
+-- What the answer of a row comes to as a reply, whatever it is.
+use Rattle.std.proofs.Common.{◌≡◌, ◌∙◌, ℕ, List, refl, ap, sym, subst, Option, Some, None, Result, Ok, Err}
+use Rattle.reply_text.specs.Answer as answers
+use Rattle.command_rows.specs.Rows.{Answer, digest_or, done_or, dump_or, left_or, payload_or, reaped_or, tag_or}
 use Rattle.command_rows.specs.Vocabulary.{Refusal}
 use Rattle.command_rows.specs.verbs.Verify.{verified_or}
 
@@ -59,22 +56,3 @@ pub of_reply : {A : Type 0} (answer_to : Result A Refusal → Answer) (answer : 
     → ((value : A) → answer ≡ Ok value → (said : Answer) → IsServed said → Claim said) → ((refusal : Refusal) → answer ≡ Err refusal → Claim (answers.Refused refusal)) → Claim reply
 of_reply answer_to (Ok v) reply Claim r is served refused = subst Claim (sym is) (served v refl (answer_to (Ok v)) (r.value v))
 of_reply answer_to (Err found) reply Claim r is served refused = subst Claim (sym (is ∙ r.refusal found)) (refused found refl)
-
--- ---- the text
-
-length-numbers_in : (count : ℕ) (bytes : List ℕ) → length (numbers_in count bytes) ≡ count
-unfolding numbers_in
-length-numbers_in zero bytes = refl
-length-numbers_in (suc count) bytes = ap suc (length-numbers_in count (drop 8 bytes))
-
--- what is printed of a reply is the text of the answer that it is
-pub text_of_reply : (bytes : List ℕ) (reply : Reply) → answer_text (answer_of bytes reply) ≡ reply_text reply bytes
-text_of_reply bytes replies.Done = refl
-text_of_reply bytes (replies.Payload count) = refl
-text_of_reply bytes (replies.Digest digest) = refl
-text_of_reply bytes (replies.Rows rows) = refl
-text_of_reply bytes (replies.Dump meta) = refl
-text_of_reply bytes (replies.Tag tag) = refl
-text_of_reply bytes (replies.Left left) = refl
-text_of_reply bytes (replies.Verified bad next) = ap (verified_text (numbers_in bad bytes) next) (length-numbers_in bad bytes)
-text_of_reply bytes (replies.Refused refusal) = refl

@@ -1,7 +1,7 @@
 -- Each row is made of sound steps: no count of the cabinet or the entropy falls, their failures are reported only if
 -- they rose, and what is attached keeps a keying that a provider may have.
 use Rattle.eli_base.specs.declared.refusals.Refusal.TheVariants as refusals
-use Rattle.command_rows.specs.Answer as answers
+use Rattle.reply_text.specs.Answer as answers
 use Rattle.command_rows.specs.Rows.{Answer, Attachment, GoesOn, Holding, HoldsKeying, Idle, IsAttached, Reach, Replies, Then}
 use Rattle.command_rows.specs.Vocabulary.{CabinetState, EntropyState, IsKeying, Refusal}
 use Rattle.command_rows.proofs.Causing.{Step}

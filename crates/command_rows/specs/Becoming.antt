@@ -3,7 +3,7 @@
 use Rattle.std.specs.Prelude.{Bool, IsTrue, List, MatchOption, None, Option, Some, [], false, slice_get, true, ℕ, ◌∷◌, ◌≡◌, ◌⊎◌}
 use Rattle.block_traits.specs.declared.disk.Event.TheVariants.{Flush}
 use Rattle.command_words.specs.declared.commands.Command.TheVariants as commands
-use Rattle.command_rows.specs.Answer as answers
+use Rattle.reply_text.specs.Answer as answers
 use Rattle.command_rows.specs.Gate.{traits_of}
 use Rattle.command_rows.specs.Rows.{Answer, Attachment, DrawerState, Holding, Idle, IsAttached, IsSuspended, Kept, Reach, World, place_of}
 use Rattle.command_rows.specs.Turn.{reach, takes_out}

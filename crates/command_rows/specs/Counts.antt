@@ -2,7 +2,7 @@
 -- count rose.
 use Rattle.std.specs.Prelude.{◌≡◌, ◌⊎◌, ◌≤◌}
 use Rattle.eli_base.specs.declared.refusals.Refusal.TheVariants as refusals
-use Rattle.command_rows.specs.Answer as answers
+use Rattle.reply_text.specs.Answer as answers
 use Rattle.command_rows.specs.Rows.{Answer, World}
 use Rattle.command_rows.specs.Vocabulary.{CabinetState, EntropyState, Refusal, Rose, passphrase_limit}
 

@@ -3,7 +3,7 @@
 use Rattle.std.specs.List.{remove}
 use Rattle.std.specs.Prelude.{Bool, List, None, Option, Some, [], false, option_and_then, slice_get, slice_set, take, true, ℕ, ◌≡◌, ◌⊎◌}
 use Rattle.eli_base.specs.declared.refusals.Refusal.TheVariants as refusals
-use Rattle.command_rows.specs.Answer as answers
+use Rattle.reply_text.specs.Answer as answers
 use Rattle.command_rows.specs.Gate.{traits_of}
 use Rattle.command_rows.specs.Rows.{Answer, DrawerState, Holding, place_of}
 use Rattle.command_rows.specs.Turn.{takes_out}

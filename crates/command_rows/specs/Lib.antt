@@ -1,4 +1,3 @@
-pub mod Answer
 pub mod Asks
 pub mod Becoming
 pub mod Causes

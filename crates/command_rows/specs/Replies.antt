@@ -1,7 +1,7 @@
 -- The reply to a line, by the answer of its row.
 use Rattle.std.specs.Prelude.{Err, List, None, Ok, Option, Result, Some, ℕ, ◌≡◌}
-use Rattle.command_rows.specs.Answer.{Answer}
-use Rattle.command_rows.specs.Answer as answers
+use Rattle.reply_text.specs.Answer.{Answer}
+use Rattle.reply_text.specs.Answer as answers
 use Rattle.command_rows.specs.Vocabulary.{Metadata, Refusal}
 use Rattle.command_rows.specs.World.{Reach}
 

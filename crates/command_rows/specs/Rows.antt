@@ -1,5 +1,5 @@
 -- What rows and verbs are made of, passed on from one place.
-pub use Rattle.command_rows.specs.Answer.{Answer, answer_of, answer_text}
+pub use Rattle.reply_text.specs.Answer.{Answer, answer_of, answer_text}
 pub use Rattle.command_rows.specs.Asks.{Asks, AsksBytesAtOnce, AsksForNone, AsksNothing, AsksSectorsFrom, AsksToOpen, AsksToRead, AsksToReap, AsksToStep, AsksToWrite, Counted, FaultOf, HasReadFault, QueueRefuses, Ranged, Sectors, Spelled}
 pub use Rattle.command_rows.specs.Digits.{SpellsBytes, bytes_spelled, decoded}
 pub use Rattle.command_rows.specs.Findings.{AreComponents, FindsMetadata, HasMetadata, HoldsNone, IsFile, IsReadAs, LacksMetadata, LacksRoom, NamesFile, NamesParts, RefusesFile, RefusesFiles, ShowsMetadata, ShowsMetadataAt, WritesMetadata}

@@ -1,6 +1,6 @@
 -- What a disk may hold at each moment of a line that changes its metadata, whenever power fails: the old or the new.
 use Rattle.std.specs.Prelude.{Bool, List, MatchOption, Option, Some, false, slice_get, true, ℕ, ◌≡◌, ◌⊎◌}
-use Rattle.command_rows.specs.Answer as answers
+use Rattle.reply_text.specs.Answer as answers
 use Rattle.command_rows.specs.Rows.{Answer, DrawerState, Holding, World, place_of}
 use Rattle.command_rows.specs.Turn.{takes_out}
 use Rattle.command_rows.specs.Vocabulary.{Command, DiskState, Files, bytes_at, provider_of}

@@ -13,7 +13,7 @@ use Rattle.std.specs.List.{remove}
 use Rattle.std.specs.Prelude.{Bool, List, MatchOption, None, Option, Some, false, is_some, map, slice_get, slice_set, true, ℕ, ◌≡◌}
 use Rattle.eli_base.specs.declared.refusals.Refusal.TheVariants as refusals
 use Rattle.reply_text.specs.declared.rows.Row.{Row}
-use Rattle.command_rows.specs.Answer as answers
+use Rattle.reply_text.specs.Answer as answers
 use Rattle.command_rows.specs.Gate.{needs, refused_by, traits_of}
 use Rattle.command_rows.specs.verbs.{verb_of}
 

@@ -1,7 +1,7 @@
 -- What a verb is, as one value: all that rows, laws and a run ask of a command but what its traits say.
 use Rattle.std.specs.Prelude.{Bool, List, None, Option, [], ℕ, ◌∷◌, ◌≡◌}
 use Rattle.block_traits.specs.declared.disk.Event.TheVariants.{Flush}
-use Rattle.command_rows.specs.Answer.{Answer}
+use Rattle.reply_text.specs.Answer.{Answer}
 use Rattle.command_rows.specs.Asks.{Asks, AsksNothing}
 use Rattle.command_rows.specs.Vocabulary.{CabinetState, DiskState, Event, Files, JobWords, KeyWords, Refusal, Span}
 use Rattle.command_rows.specs.World.{Holding, Reach}

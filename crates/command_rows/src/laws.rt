@@ -8,7 +8,7 @@ ghost use Rattle.eli_base.specs.Keying.{Keying};
 ghost use Rattle.eli_base.specs.declared.refusals.Refusal.{Refusal};
 ghost use Rattle.eli_base.specs.declared.refusals.Refusal.TheVariants.{NoMemory};
 ghost use Rattle.eli_metadata.specs.declared.metadata.Metadata.{Metadata};
-ghost use Rattle.command_rows.specs.Answer.{Answer, Refused};
+ghost use Rattle.reply_text.specs.Answer.{Answer, Refused};
 ghost use Rattle.command_rows.specs.Becoming.{BecomesSo};
 ghost use Rattle.command_rows.specs.Causes.{Caused, may_lack_memory};
 ghost use Rattle.command_rows.specs.Counts.{CountsFailures};

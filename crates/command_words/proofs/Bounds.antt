@@ -21,7 +21,8 @@ use Rattle.command_words.specs.declared.table.Operand.{Operand}
 use Rattle.command_words.specs.declared.table.Operand.TheVariants.{Provider, File, Sector, FewSectors, ManySectors, Seed, Digits, Job, Tag}
 use Rattle.command_words.specs.Words.{Word, words}
 use Rattle.command_words.specs.Table.{verb_named, form_of, row_of, job_at}
-use Rattle.command_words.specs.Values.{decimal, is_numeral, number_within, is_hexadecimal, value_fault, operand_fault}
+use Rattle.command_words.specs.Values.{value_fault, operand_fault}
+use Rattle.word_values.specs.Values.{decimal, is_numeral, number_within, is_hexadecimal}
 use Rattle.command_words.specs.Options.{Item, Set, Given, Unknown, Missing, Options, options, values, value_in, option_fault, first_option_fault, or_else}
 use Rattle.command_words.specs.Settings.{settings_given, span_of, last, last_value}
 use Rattle.command_words.specs.Operands.{operands_of, operands_fault, operand_place, word_as, no_span, job_or, job_as, number_as, span_as}

@@ -1,7 +1,6 @@
 mod Bounds
 mod Forms
 mod Joining
-mod Numbers
 mod OperandsLemmas
 mod Options
 mod Places

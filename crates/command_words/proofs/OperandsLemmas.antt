@@ -16,7 +16,8 @@ use Rattle.command_words.specs.declared.table.Operand.{Operand}
 use Rattle.command_words.specs.declared.table.Operand.TheVariants.{Provider, File, Sector, FewSectors, ManySectors, Seed, Digits, Job, Tag}
 use Rattle.command_words.specs.Words.{Word}
 use Rattle.command_words.specs.Table.{row_of, form_of}
-use Rattle.command_words.specs.Values.{decimal, operand_fault}
+use Rattle.command_words.specs.Values.{operand_fault}
+use Rattle.word_values.specs.Values.{decimal}
 use Rattle.command_words.specs.Options.{or_else}
 use Rattle.command_words.specs.Operands.{operands_of, operands_fault, operand_place, word_as, job_or, job_as}
 use Rattle.command_words.specs.Settings.{span_of}

@@ -11,5 +11,6 @@ pub mod Spans
 pub mod Places
 pub mod Bounds
 pub mod Images
+pub mod Changes
 pub mod Said
 pub mod Traits

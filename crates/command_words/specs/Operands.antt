@@ -9,7 +9,8 @@ use Rattle.command_words.specs.declared.table.JobName.TheVariants as jobs
 use Rattle.command_words.specs.declared.table.Operand.{Operand}
 use Rattle.command_words.specs.declared.table.Operand.TheVariants.{Provider, File, Sector, FewSectors, ManySectors, Seed, Digits, Job, Tag}
 use Rattle.command_words.specs.Words.{Word}
-use Rattle.command_words.specs.Values.{decimal, operand_fault}
+use Rattle.command_words.specs.Values.{operand_fault}
+use Rattle.word_values.specs.Values.{decimal}
 use Rattle.command_words.specs.Options.{or_else}
 use Rattle.command_words.specs.Settings.{span_of}
 

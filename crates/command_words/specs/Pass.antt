@@ -23,7 +23,8 @@ use Rattle.command_words.specs.declared.kinds.WordKind.{WordKind}
 use Rattle.command_words.specs.declared.kinds.WordKind.TheVariants as Here
 use Rattle.command_words.specs.Words.{Word}
 use Rattle.command_words.specs.Table.{letter_of}
-use Rattle.command_words.specs.Values.{decimal, auth_named, cipher_named, value_fault, operand_fault}
+use Rattle.command_words.specs.Values.{value_fault, operand_fault}
+use Rattle.word_values.specs.Values.{decimal, auth_named, cipher_named}
 use Rattle.command_words.specs.Options.{Kind, Ends, Letters, Other, kind_of}
 use Rattle.command_words.specs.Settings.{span_of, backup_of}
 use Rattle.command_words.specs.Operands.{no_span}

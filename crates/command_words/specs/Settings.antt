@@ -12,7 +12,7 @@ use Rattle.command_words.specs.declared.table.Switch.TheVariants.{WithoutOld, Wi
 use Rattle.command_words.specs.declared.table.Valued.{Valued}
 use Rattle.command_words.specs.declared.table.Valued.TheVariants.{AuthName, CipherName, Iterations, KeyLength, SectorSize, OldSize, Slot, BackupFile, OldFile, OldPass, FreshFile, FreshPass}
 use Rattle.command_words.specs.Words.{Word}
-use Rattle.command_words.specs.Values.{decimal, auth_named, cipher_named}
+use Rattle.word_values.specs.Values.{decimal, auth_named, cipher_named}
 use Rattle.command_words.specs.Options.{Item, Set, Given, Unknown, Missing, values}
 
 -- the bytes of a value in the line

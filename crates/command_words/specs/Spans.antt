@@ -4,7 +4,7 @@ use Rattle.command_words.specs.declared.commands.JobWords.{JobWords}
 use Rattle.command_words.specs.declared.commands.JobWords.TheVariants as jobs
 use Rattle.command_words.specs.declared.spans.KeyWords.{KeyWords}
 use Rattle.command_words.specs.declared.spans.Span.{Span}
-use Rattle.command_words.specs.Values.{is_hexadecimal}
+use Rattle.word_values.specs.Values.{is_hexadecimal}
 
 -- whether a span lies in a line of so many bytes
 abbrev pub IsWithin : ℕ → Span → Type 0

@@ -9,7 +9,7 @@ use Rattle.command_words.specs.declared.verbs.Needs.{Needs}
 use Rattle.command_words.specs.declared.verbs.Needs.TheVariants.{AnIdle, AnAttached, ASuspended, NoIdle, NoSuspended, AnyOne}
 use Rattle.command_words.specs.declared.verbs.Traits.{Traits}
 use Rattle.command_words.specs.Spans.{AreSectors, IsBoundedJob, IsOldSize, IsWithin, JobIsWithin, KeyIsWithin, bytes_at}
-use Rattle.command_words.specs.Values.{is_hexadecimal}
+use Rattle.word_values.specs.Values.{is_hexadecimal}
 
 -- a verb that needs such a drawer, and of which nothing else holds
 abbrev pub plain : Needs → Traits

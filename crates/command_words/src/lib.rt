@@ -12,7 +12,6 @@ mod pass;
 mod settings;
 mod spans;
 mod table;
-mod values;
 mod verbs;
 mod words;
 
@@ -21,4 +20,4 @@ pub use images::{ImageNames, images_of, provider_name};
 pub use lines::{LINE_LIMIT, read_line};
 pub use spans::{KeyWords, Sep, Span, SpanList};
 pub use verbs::{Needs, Traits};
-pub use words::{Words, read_words};
+pub use words::{Words, changes, read_words};

@@ -1,7 +1,8 @@
 //! The operands of a line.
 ghost use Rattle.std.specs.Prelude.{◌≡◌, [], MatchResult};
 ghost use Rattle.command_words.specs.Cursor.{seen, left};
-ghost use Rattle.command_words.specs.Values.{operand_fault, number_within};
+ghost use Rattle.command_words.specs.Values.{operand_fault};
+ghost use Rattle.word_values.specs.Values.{number_within};
 ghost use Rattle.command_words.specs.Pass.{with_operand, taken_operands};
 ghost use Rattle.command_words.specs.Operands.{operands_of};
 ghost use Rattle.command_words.specs.Settings.{span_of};
@@ -11,7 +12,6 @@ use crate::cursor::{Piece, WordsLeft};
 use crate::settings::named_file;
 use crate::spans::Span;
 use crate::table::{JobName, Operand};
-use crate::values;
 use eli_base::Reason;
 
 /// What the operands of a line say.
@@ -42,7 +42,7 @@ fn number(value: Piece, low: u64, high: u64) -> Result<u64, Reason>
         (λ number. number_within low high value.entry.bytes.now ≡ Some number)
         (λ reason. (number_within low high value.entry.bytes.now ≡ None) × (reason ≡ Reason.BadNumber)) }
 {
-    values::number(value.bytes, low, high).ok_or(Reason::BadNumber)
+    word_values::number(value.bytes, low, high).ok_or(Reason::BadNumber)
 }
 
 fn hexadecimal(value: Piece) -> Result<Span, Reason>
@@ -50,7 +50,7 @@ fn hexadecimal(value: Piece) -> Result<Span, Reason>
         (λ digits. (operand_fault Operand.Digits value.entry.bytes.now ≡ None) × (digits ≡ span_of (seen value.entry)))
         (λ reason. operand_fault Operand.Digits value.entry.bytes.now ≡ Some reason) }
 {
-    if !values::is_hexadecimal(value.bytes) {
+    if !word_values::is_hexadecimal(value.bytes) {
         return Err(Reason::BadHex);
     }
     Ok(value.span())

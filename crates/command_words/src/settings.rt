@@ -1,13 +1,13 @@
 //! What the options of a line say.
 ghost use Rattle.std.specs.Prelude.{◌≡◌, [], ◌++◌, ◌∷◌, length, false, pos, Ok, Err, Some, None, MatchResult};
-ghost use Rattle.command_words.specs.Values.{decimal, value_fault, files_fault, file_fault, number_within, old_size_named};
+ghost use Rattle.command_words.specs.Values.{value_fault, files_fault, file_fault};
+ghost use Rattle.word_values.specs.Values.{decimal, number_within, old_size_named};
 ghost use Rattle.command_words.specs.Cursor.{seen};
 ghost use Rattle.command_words.specs.Settings.{span_of, backup_of};
 
 use crate::cursor::Piece;
 use crate::spans::{KeyWords, Span, SpanList};
 use crate::table::{Switch, Valued};
-use crate::values;
 use eli_base::{Auth, Cipher, Reason};
 
 /// What the options of a line say.
@@ -52,7 +52,7 @@ fn number(value: Piece, high: u64) -> Result<u64, Reason>
         (λ number. number_within 0 high value.entry.bytes.now ≡ Some number)
         (λ reason. (number_within 0 high value.entry.bytes.now ≡ None) × (reason ≡ Reason.BadNumber)) }
 {
-    values::number(value.bytes, 0, high).ok_or(Reason::BadNumber)
+    word_values::number(value.bytes, 0, high).ok_or(Reason::BadNumber)
 }
 
 fn iterations(value: Piece) -> Result<Option<i32>, Reason>
@@ -92,7 +92,7 @@ fn old_size(value: Piece) -> Result<Option<u64>, Reason>
         (λ size. (value_fault Valued.OldSize 0 value.entry.bytes.now ≡ None) × (size ≡ Some (decimal value.entry.bytes.now)))
         (λ reason. value_fault Valued.OldSize 0 value.entry.bytes.now ≡ Some reason) }
 {
-    match values::old_size(value.bytes) {
+    match word_values::old_size(value.bytes) {
         Some(size) => Ok(Some(size)),
         None => Err(Reason::BadNumber),
     }
@@ -198,11 +198,11 @@ impl Settings {
         match option {
             Valued::AuthName => keep(
                 &mut self.auth,
-                values::auth(value.bytes).ok_or(Reason::BadName),
+                word_values::auth(value.bytes).ok_or(Reason::BadName),
             ),
             Valued::CipherName => keep(
                 &mut self.cipher,
-                values::cipher(value.bytes).ok_or(Reason::BadName),
+                word_values::cipher(value.bytes).ok_or(Reason::BadName),
             ),
             Valued::Iterations => keep(&mut self.iterations, iterations(value)),
             Valued::KeyLength => keep(&mut self.keylen, key_length(value)),

@@ -1,6 +1,7 @@
 //! What the words of the command line say, read once.
 ghost use Rattle.std.specs.Prelude.{◌≡◌, IfOk, length, map, string_bytes};
 ghost use Rattle.command_words.specs.Bounds.{IsBounded};
+ghost use Rattle.command_words.specs.Changes.{changes_said};
 ghost use Rattle.command_words.specs.Images.{name_at};
 ghost use Rattle.command_words.specs.Places.{CommandIsWithin, ProviderIsText, provider_of};
 ghost use Rattle.command_words.specs.Said.{FitsItsLine, Says, image_names_of};
@@ -53,5 +54,15 @@ impl Words<'_> {
             Words::One { line, command } => provider_name(alloc, line, command),
             Words::Usage => Ok(Vec::new(alloc)),
         }
+    }
+}
+
+/// Whether the images are to be changed: those of a script are, and that of a command unless the command only reads.
+pub fn changes(said: &Words<'_>) -> bool
+    ensures { result ≡ changes_said said.now }
+{
+    match said {
+        Words::One { command, .. } => !command.traits().only_reads,
+        Words::Script(_) | Words::Usage => true,
     }
 }

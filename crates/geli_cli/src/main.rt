@@ -1,24 +1,12 @@
 //! The program `geli`: the disks, streams, files and random bytes of the system are handed to the run.
 #![tactic(auto)]
 
-ghost use Rattle.std.specs.Prelude.{◌≡◌, MatchResult};
-
 use file_edge::{InputSource, OutputSink, SystemFiles, words_of};
-use geli_core::Status;
-use image_run::{exit_code, run_files};
+use image_run::run_files;
+use run_status::{Status, exit_code, status_of};
 use std::fs::File;
 use std::process::ExitCode;
 use std::{env, io};
-
-// The status of a run, or want of memory; the shelf, the files and the random bytes are let go.
-fn status_of<S: Drop, C: Drop, E: Drop, X: Drop>(ran: Result<(Status, S, C, E), X>) -> Status
-    ensures { MatchResult ran (λ left. result ≡ left.0) (λ _. result ≡ Status.NoMemory) }
-{
-    match ran {
-        Ok((status, _, _, _)) => status,
-        Err(_) => Status::NoMemory,
-    }
-}
 
 fn main(rt: HostRuntime) -> ExitCode {
     let alloc = rt.alloc();

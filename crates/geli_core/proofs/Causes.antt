@@ -8,8 +8,8 @@ use Rattle.command_rows.specs.Vocabulary.{Command, Rose, SinkState}
 use Rattle.geli_core.specs.Script.{Ends, EndsBy, EndsCommand, StatusHasCause, PrintsAnswers, PrintsUsage, Runs, RunsAs, RunsCommand, RunsLine, RunsScript, Whole}
 use Rattle.geli_core.specs.Trace.{Trace, answers_of}
 use Rattle.geli_core.specs.Vocabulary.{command_in, line_of, script_images}
-use Rattle.geli_core.specs.declared.status.Status.{Status}
-use Rattle.geli_core.specs.declared.status.Status.TheVariants.{Done, SomeRefused, BadWords, ReadFault, WriteFault, NoMemory, LineTooLong, ScriptTooLong}
+use Rattle.run_status.specs.declared.status.Status.{Status}
+use Rattle.run_status.specs.declared.status.Status.TheVariants.{Done, SomeRefused, BadWords, ReadFault, WriteFault, NoMemory, LineTooLong, ScriptTooLong}
 
 pub rose_prints : (answers : List (Option Answer)) (failed : ℕ) (old new : SinkState) → PrintsAnswers answers failed old WriteFault new → Rose old.faults new.faults
 rose_prints answers failed old new (inl part) = Rose-earlier old.faults part.middle.faults new.faults part.before.later part.part.rose

@@ -4,15 +4,16 @@ use Rattle.std.proofs.lemmas.List.{append-nil}
 use Rattle.command_rows.specs.Rows.{Answer}
 use Rattle.command_rows.specs.Vocabulary.{Command, SinkState, SourceState, TookAll, TookPart}
 use Rattle.command_words.specs.declared.spans.Sep.TheVariants.{Blanks, Zeros}
-use Rattle.reply_text.proofs.Printing.{TookAll-nothing, TookAll-then}
-use Rattle.geli_core.specs.Run.{PrintsAnswer, ServesAndPrints, ServesLine, ServesReading, answers_text, any_refused, closing_answers, end_of, is_refusal, refuses, text_of}
+use Rattle.text_page.proofs.Printing.{TookAll-nothing, TookAll-then}
+use Rattle.geli_core.specs.Run.{ServesAndPrints, ServesLine, ServesReading, answers_text, any_refused, closing_answers, refuses, text_of}
+use Rattle.reply_text.specs.LineEnds.{PrintsAnswer, end_of, is_refusal}
 use Rattle.geli_core.specs.Script.{EndsCommand, PrintsAnswers, PrintsUsage, Runs, RunsAs, RunsCommand, RunsLine, Whole}
 use Rattle.geli_core.specs.Served.{ClosesAndPrints, RunsUnless, SiteState, Traced, status_by, whole_of}
 use Rattle.geli_core.specs.Trace.{Trace}
 use Rattle.geli_core.specs.Vocabulary.{ClosesWorld, Usage, WriteEnd, command_in, line_limit, line_of, line_reading, said, script_images}
-use Rattle.geli_core.specs.declared.serving.LineEnd.{LineEnd}
-use Rattle.geli_core.specs.declared.status.Status.{Status}
-use Rattle.geli_core.specs.declared.status.Status.TheVariants.{Done, SomeRefused, BadWords, ReadFault, WriteFault, NoMemory, LineTooLong, ScriptTooLong}
+use Rattle.reply_text.specs.declared.line_ends.LineEnd.{LineEnd}
+use Rattle.run_status.specs.declared.status.Status.{Status}
+use Rattle.run_status.specs.declared.status.Status.TheVariants.{Done, SomeRefused, BadWords, ReadFault, WriteFault, NoMemory, LineTooLong, ScriptTooLong}
 use Rattle.geli_core.proofs.Running.{refuses-end, served_line}
 
 -- what a line reads as that says a command

@@ -12,8 +12,8 @@ use Rattle.geli_core.specs.Script.{IsReadToEnd, Runs, RunsAs, RunsCommand, RunsL
 use Rattle.geli_core.specs.Served.{ByTrace, RunsUnless, status_by}
 use Rattle.geli_core.specs.Trace.{Trace, answers_of, lines_of}
 use Rattle.geli_core.specs.Vocabulary.{command_in, line_limit, line_of, script_images}
-use Rattle.geli_core.specs.declared.status.Status.{Status}
-use Rattle.geli_core.specs.declared.status.Status.TheVariants.{Done, SomeRefused, BadWords, ReadFault, WriteFault, NoMemory, LineTooLong, ScriptTooLong}
+use Rattle.run_status.specs.declared.status.Status.{Status}
+use Rattle.run_status.specs.declared.status.Status.TheVariants.{Done, SomeRefused, BadWords, ReadFault, WriteFault, NoMemory, LineTooLong, ScriptTooLong}
 use Rattle.geli_core.proofs.Causes.{rose_prints}
 use Rattle.std.specs.List.{flat_map}
 

@@ -8,7 +8,7 @@ use Rattle.std.proofs.lemmas.Slice.Eq.{bytes_eq-Decides}
 use Rattle.command_rows.specs.Rows.{Answer, DrawerState, NamesDiffer, World, place_of}
 use Rattle.command_rows.specs.Vocabulary.{Command, Rose, Span, bytes_at, provider_of}
 use Rattle.eli_base.specs.declared.refusals.Refusal.TheVariants as refusals
-use Rattle.command_rows.specs.Answer as answers
+use Rattle.reply_text.specs.Answer as answers
 use Rattle.command_rows.proofs.LineCauses.{refusal_caused}
 use Rattle.command_rows.proofs.Naming.{differ-removed, differ-set, place-set}
 use Rattle.command_rows.proofs.Untouched.{get-set, get-set_other, turn_only_steps}

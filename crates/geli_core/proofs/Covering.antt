@@ -3,7 +3,7 @@ use Rattle.std.proofs.Common.{◌≡◌, ◌∙◌, inl, inr, ℕ, List, [], ◌
 use Rattle.std.proofs.lemmas.List.Elements.{All-weaker}
 use Rattle.command_rows.specs.Rows.{Answer, AttachedWith, Attachment, DrawerState, HoldKeyings, IsAmong, Places, PlacesBytes, PlacesGenerated, PlacesNoMore, PlacesNothing, PlacesRequest, PlacesUnit, World, attachment_in, place_of}
 use Rattle.command_rows.specs.Vocabulary.{Command, Content, Event, Keying, Span, bytes_at}
-use Rattle.command_rows.specs.Answer as answers
+use Rattle.reply_text.specs.Answer as answers
 use Rattle.command_rows.proofs.Gate.{attached}
 use Rattle.geli_core.specs.ReadsBack.{IsAmongSteps, IsDoneAsAsked}
 use Rattle.geli_core.specs.Requests.{CoversReaped, CoversWork}

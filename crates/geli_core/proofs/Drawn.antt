@@ -8,7 +8,7 @@ use Rattle.block_traits.specs.declared.disk.Event.TheVariants.{Flush}
 use Rattle.block_traits.proofs.Logs.{Logs-nothing, Logs-then}
 use Rattle.command_rows.specs.Rows.{Answer, DrawerState, World, is_idle, place_of}
 use Rattle.command_rows.specs.Vocabulary.{Command, DiskState, Event, Logs, Span, bytes_at, provider_of}
-use Rattle.command_rows.specs.Answer as answers
+use Rattle.reply_text.specs.Answer as answers
 use Rattle.shelf.specs.Closing.{Flushes}
 use Rattle.command_rows.proofs.Untouched.{get-set, get-set_other, turn_only_steps}
 use Rattle.geli_core.specs.Histories.{DrawerSteps, EachGrew, Grew, KeepsDrawers, RunsAt, TakesDrawer, ejected, ejects, is_done, names, names_by, says_eject, says_name}

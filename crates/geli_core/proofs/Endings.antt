@@ -5,24 +5,25 @@ use Rattle.std.proofs.lemmas.List.{replicate-append-replicate}
 use Rattle.command_rows.specs.Rows.{Answer, World, answer_text}
 use Rattle.command_rows.specs.Vocabulary.{Rose, SinkState, SourceState, TookAll, TookPart}
 use Rattle.eli_base.specs.declared.refusals.Refusal.TheVariants as refusals
-use Rattle.command_rows.specs.Answer as answers
+use Rattle.reply_text.specs.Answer as answers
 use Rattle.std.proofs.lemmas.List.{append-nil}
 use Rattle.std.proofs.lemmas.Grind.{flat_map-append}
 use Rattle.std.proofs.lemmas.List.Folds.{list_any-append}
 use Rattle.std.specs.Io.KnownBytes.{IsAtEnd, prepend_known}
 use Rattle.command_words.specs.declared.spans.Sep.TheVariants.{Blanks}
-use Rattle.reply_text.proofs.Printing.{TookAll-then}
+use Rattle.text_page.proofs.Printing.{TookAll-then}
 use Rattle.geli_core.specs.Lines.{CutsInto, last_line}
-use Rattle.geli_core.specs.Run.{FailsInLast, ServesAndPrints, ServesLine, answers_text, any_refused, closing_answers, is_refusal, refuses, text_of}
+use Rattle.geli_core.specs.Run.{FailsInLast, ServesAndPrints, ServesLine, answers_text, any_refused, closing_answers, refuses, text_of}
+use Rattle.reply_text.specs.LineEnds.{is_refusal}
 use Rattle.geli_core.specs.Script.{MetEnd, MetNothing, MetRefusal, RunsScript, script_limit}
 use Rattle.geli_core.specs.Served.{ClosesAndPrints, IsAllServed, IsAllUnprinted, IsServed, IsTaken, PrintsClosing, ServesAll, ServesLines, SiteState, StopsWithin, Traced, status_by, whole_of}
 use Rattle.geli_core.specs.Trace.{Run, ServedLine, Trace, answers_of, lines_of}
 use Rattle.std.specs.List.{AllByRecursion}
 use Rattle.geli_core.specs.Vocabulary.{ClosesWorld, WriteEnd, line_limit}
 use Rattle.geli_core.specs.declared.feeding.Stop.TheVariants.{TooLong, Unprinted}
-use Rattle.geli_core.specs.declared.serving.LineEnd.{LineEnd}
-use Rattle.geli_core.specs.declared.status.Status.{Status}
-use Rattle.geli_core.specs.declared.status.Status.TheVariants.{Done, SomeRefused, BadWords, ReadFault, WriteFault, NoMemory, LineTooLong, ScriptTooLong}
+use Rattle.reply_text.specs.declared.line_ends.LineEnd.{LineEnd}
+use Rattle.run_status.specs.declared.status.Status.{Status}
+use Rattle.run_status.specs.declared.status.Status.TheVariants.{Done, SomeRefused, BadWords, ReadFault, WriteFault, NoMemory, LineTooLong, ScriptTooLong}
 use Rattle.geli_core.proofs.Running.{Run-more, all_more, answers_of-more, failed_more, lines_of-more, refused_more, served_line, took_more}
 
 last_line-some : (line : List ℕ) → 1 ≤ length line → last_line line ≡ line ∷ []

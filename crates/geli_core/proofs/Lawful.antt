@@ -9,7 +9,7 @@ use Rattle.geli_core.specs.Served.{Traced}
 use Rattle.geli_core.specs.Suspensions.{AreSuspended}
 use Rattle.geli_core.specs.Trace.{EachLine, EachServed, Run, ServedLine}
 use Rattle.geli_core.specs.Vocabulary.{Sep, line_reading}
-use Rattle.geli_core.specs.declared.status.Status.{Status}
+use Rattle.run_status.specs.declared.status.Status.{Status}
 use Rattle.geli_core.proofs.Bounded.{counts_all}
 use Rattle.geli_core.proofs.Causes.{runs_caused, runs_end}
 use Rattle.geli_core.proofs.Completing.{runs_complete}

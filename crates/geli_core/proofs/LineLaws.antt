@@ -4,7 +4,7 @@ use Rattle.command_rows.specs.Rows.{Answer, World, place_of}
 use Rattle.command_rows.specs.Vocabulary.{Command, Refusal, SinkState, Span, bytes_at, provider_of}
 use Rattle.command_words.specs.declared.commands.Command.TheVariants as commands
 use Rattle.eli_base.specs.declared.refusals.Refusal.TheVariants as refusals
-use Rattle.command_rows.specs.Answer as answers
+use Rattle.reply_text.specs.Answer as answers
 use Rattle.command_rows.specs.Fits.{FindsAt, Fits}
 use Rattle.command_rows.proofs.LineCauses.{refusal_caused}
 use Rattle.command_rows.proofs.Stopped.{turn_leaves}
@@ -16,7 +16,7 @@ use Rattle.command_rows.proofs.LineStores.{turn_stores}
 use Rattle.geli_core.specs.Laws.{IfRefused, KeepsLaws, LineKeepsLaws, ServesLawfully}
 use Rattle.geli_core.specs.Run.{ServesAndPrints, ServesLine, ServesReading}
 use Rattle.geli_core.specs.Vocabulary.{Caused, CausedAt, CausedBy, Sep, Turn, Usage, WriteEnd, line_reading, may_lack_memory}
-use Rattle.geli_core.specs.declared.serving.LineEnd.{LineEnd}
+use Rattle.reply_text.specs.declared.line_ends.LineEnd.{LineEnd}
 
 -- ---- want of memory
 

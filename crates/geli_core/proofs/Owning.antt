@@ -7,7 +7,7 @@ use Rattle.command_rows.specs.Rows.{Answer, AttachedWith, Attachment, DrawerStat
 use Rattle.command_rows.specs.Vocabulary.{AreAllOf, Command, DiskState, IsKeying, IsOf, JobWords, ReapAnswers, ReapFault, Reaped, Refusal, Request, Span, StepAnswers, StepFault, media, media_sectors, request_with}
 use Rattle.command_words.specs.declared.commands.Command.TheVariants as commands
 use Rattle.eli_base.specs.declared.refusals.Refusal.TheVariants as refusals
-use Rattle.command_rows.specs.Answer as answers
+use Rattle.reply_text.specs.Answer as answers
 use Rattle.command_rows.proofs.Gate.{by_gate, with_attached}
 use Rattle.command_rows.proofs.Lines.{line_did}
 use Rattle.command_rows.proofs.Turns.{by_each_turn}

@@ -8,7 +8,7 @@ use Rattle.command_words.specs.declared.commands.Command.TheVariants as commands
 use Rattle.eli_base.specs.declared.refusals.Refusal.TheVariants as refusals
 use Rattle.queue_readings.proofs.Among.{fits_among, front_among}
 use Rattle.readings.proofs.Writes.{AreStepsBelow-raw, events_of-raw}
-use Rattle.command_rows.specs.Answer as answers
+use Rattle.reply_text.specs.Answer as answers
 use Rattle.command_rows.proofs.Gate.{by_gate, with_attached}
 use Rattle.command_rows.proofs.Generated.{length-generated}
 use Rattle.command_rows.proofs.Keeping.{KeepsRequests}

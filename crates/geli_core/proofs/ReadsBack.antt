@@ -10,7 +10,7 @@ use Rattle.eli_base.specs.declared.refusals.Refusal.TheVariants as refusals
 use Rattle.provider_readings.proofs.Data.{data-read}
 use Rattle.readings.specs.Survivors as survivors
 use Rattle.command_rows.proofs.Gate.{by_gate, by_gate_refusal, with_attached}
-use Rattle.command_rows.specs.Answer as answers
+use Rattle.reply_text.specs.Answer as answers
 use Rattle.command_rows.specs.verbs.Sum.{SumRow}
 use Rattle.geli_core.specs.ReadsBack.{IsDigestOf, IsDoneAsAsked, LineReads, ReadsAsAsked, StandsSo}
 use Rattle.geli_core.specs.Run.{ServesReading}

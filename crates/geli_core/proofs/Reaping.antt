@@ -6,7 +6,7 @@ use Rattle.bio_queue.specs.declared.job.Reaped.TheVariants as given
 use Rattle.command_rows.specs.Rows.{Attachment, IsAttached, Reach}
 use Rattle.command_rows.specs.Vocabulary.{Content, DiskState, Keying, ReapAnswers, ReapFault, Reaped, Refusal, Request}
 use Rattle.eli_base.specs.declared.refusals.Refusal.TheVariants as refusals
-use Rattle.command_rows.specs.Answer as answers
+use Rattle.reply_text.specs.Answer as answers
 use Rattle.geli_core.specs.ReadsBack.{IsAmongSteps, IsDoneAsAsked, ReadsAsAsked, ReadsAsTask}
 use Rattle.geli_core.specs.Vocabulary.{Flushes, IsFaulty, Play, Reads, ReapRow, Step, Task, Work, Writes, Yields, reap_answer, reaped_or, task_with}
 use Rattle.geli_core.proofs.Following.{Tracks, tracks_reaped, tracks_reaped_fault}

@@ -14,7 +14,7 @@ use Rattle.bio_queue.specs.declared.faults.ReapFault.TheVariants as reap
 use Rattle.bio_queue.specs.declared.faults.StepFault.TheVariants as step
 use Rattle.bio_queue.specs.declared.job.Job.TheVariants as jobs
 use Rattle.bio_queue.specs.declared.job.Reaped.TheVariants as given
-use Rattle.command_rows.specs.Answer as answers
+use Rattle.reply_text.specs.Answer as answers
 use Rattle.geli_core.specs.Placing.{cells_after, goes_on, request_steps, tasks_reaped, tasks_stepped, tasks_submitted, work_in}
 use Rattle.geli_core.specs.Vocabulary.{AreBytes, EventsBy, Play, ReapRow, ReapsRequest, Step, StepRow, StepsRequest, SubmitRow, Submits, Task, Work, cell, exchange_task, left_or, next_events, put_task, raw_steps, reap_answer, reaped_or, request_of, step_refusal, submit_refusal, tag_or, task_after, task_with, unit_steps, without_task, work_of}
 use Rattle.geli_core.proofs.Following.{Tracks, the_same, tracks_broken, tracks_raw, tracks_reaped, tracks_reaped_fault, tracks_stepped, tracks_stepped_other, tracks_submitted, unit_events}

@@ -8,14 +8,15 @@ use Rattle.command_rows.specs.Rows.{Answer, World}
 use Rattle.command_rows.specs.Vocabulary.{Command, SinkState, TookAll}
 use Rattle.eli_base.specs.declared.refusals.Refusal.TheVariants as refusals
 use Rattle.command_words.specs.declared.spans.Sep.TheVariants.{Blanks}
-use Rattle.command_rows.specs.Answer as answers
-use Rattle.reply_text.proofs.Printing.{TookAll-nothing, TookAll-then}
+use Rattle.reply_text.specs.Answer as answers
+use Rattle.text_page.proofs.Printing.{TookAll-nothing, TookAll-then}
 use Rattle.geli_core.specs.Lines.{CutsInto, ended, newline}
 use Rattle.geli_core.specs.Trace.{Run, ServedLine, answers_of, lines_of}
-use Rattle.geli_core.specs.Run.{FailsInLast, PrintsAnswer, ServesAndPrints, ServesLine, ServesReading, answers_text, any_refused, end_of, is_refusal, refuses, text_of}
+use Rattle.geli_core.specs.Run.{FailsInLast, ServesAndPrints, ServesLine, ServesReading, answers_text, any_refused, refuses, text_of}
+use Rattle.reply_text.specs.LineEnds.{PrintsAnswer, end_of, is_refusal}
 use Rattle.geli_core.specs.Vocabulary.{Sep, Turn, Usage, WriteEnd, line_limit, line_reading}
-use Rattle.geli_core.specs.declared.serving.LineEnd.{LineEnd}
-use Rattle.geli_core.specs.declared.serving.LineEnd.TheVariants.{Silent}
+use Rattle.reply_text.specs.declared.line_ends.LineEnd.{LineEnd}
+use Rattle.reply_text.specs.declared.line_ends.LineEnd.TheVariants.{Silent}
 use Rattle.geli_core.specs.Served.{IsServed, IsTooLong, IsUnprinted, ServesLines, SiteState}
 
 -- a run goes on by a line

@@ -10,7 +10,7 @@ use Rattle.command_rows.specs.Vocabulary.{DiskState}
 use Rattle.geli_core.specs.Images.{IsNotShelved, OutsideState, RunsOver, disks_of, idle_drawers, whole_with}
 use Rattle.geli_core.specs.Lawful.{RunsLawfully}
 use Rattle.geli_core.specs.Vocabulary.{AddFault}
-use Rattle.geli_core.specs.declared.status.Status.{Status}
+use Rattle.run_status.specs.declared.status.Status.{Status}
 use Rattle.shelf.specs.Adding.{RefusesToAdd}
 use Rattle.shelf.specs.declared.drawers.AddFault.TheVariants.{Full, Taken, NoMemory}
 

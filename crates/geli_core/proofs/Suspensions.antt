@@ -5,7 +5,7 @@ use Rattle.command_rows.specs.Rows.{Answer, Attachment, DrawerState, Holding, Is
 use Rattle.command_rows.specs.Vocabulary.{Command, KeyWords, Logs, Refusal, Span, bytes_at, sha256}
 use Rattle.command_words.specs.declared.commands.Command.TheVariants as commands
 use Rattle.suspend.proofs.Resumed.{same_or_collision}
-use Rattle.command_rows.specs.Answer as answers
+use Rattle.reply_text.specs.Answer as answers
 use Rattle.command_rows.specs.Becoming as becoming
 use Rattle.command_rows.specs.verbs.Attach.{OpensWith}
 use Rattle.command_rows.specs.verbs.Resume.{ResumeRow}

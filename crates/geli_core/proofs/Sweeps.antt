@@ -9,7 +9,7 @@ use Rattle.command_rows.specs.Rows.{Answer, AttachedWith, Attachment, DrawerStat
 use Rattle.command_rows.specs.Vocabulary.{Command, DiskState, Files, Keying, Refusal, Span, bytes_at, le64, media, place_after, sectors_swept, stored, sweep_at, units}
 use Rattle.command_words.specs.declared.commands.Command.TheVariants as commands
 use Rattle.verify_sweep.proofs.Places.{all_sectors, reaches, stays_within}
-use Rattle.command_rows.specs.Answer as answers
+use Rattle.reply_text.specs.Answer as answers
 use Rattle.command_rows.specs.verbs.Verify.{FindsPlace, ListsUnits, SweptPart, VerifyRow}
 use Rattle.command_rows.proofs.SweepPlaces.{starts_anew}
 use Rattle.command_rows.proofs.SweepRows.{HoldsPlace, SweptFrom, refused_leaves, swept, told_place}

@@ -12,7 +12,7 @@ use Rattle.hex.proofs.HexLemmas.{decode_of-ok}
 use Rattle.rand_core.specs.Steps.{word_bytes}
 use Rattle.rand_pcg.specs.Lcg.{Lcg}
 use Rattle.rand_pcg.specs.Pcg.{pcg64}
-use Rattle.command_rows.specs.Answer as answers
+use Rattle.reply_text.specs.Answer as answers
 use Rattle.geli_core.specs.Vocabulary.{AreBytes, AreFirst, BreaksOff, EventsBy, generated, words_of_sectors}
 
 -- ---- the events

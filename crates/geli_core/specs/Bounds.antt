@@ -3,7 +3,7 @@ use Rattle.std.specs.Prelude.{◌≡◌, ◌⊎◌, ℕ, ◌+◌, ◌-◌, ◌^�
 use Rattle.command_rows.specs.Rows.{Answer, DrawerState, World, is_idle, place_of}
 use Rattle.command_rows.specs.Vocabulary.{Command, Rose, passphrase_limit}
 use Rattle.eli_base.specs.declared.refusals.Refusal.TheVariants as refusals
-use Rattle.command_rows.specs.Answer as answers
+use Rattle.reply_text.specs.Answer as answers
 use Rattle.geli_core.specs.Histories.{ejected, names}
 use Rattle.geli_core.specs.Trace.{ServedLine, Trace, world_behind}
 use Rattle.geli_core.specs.Vocabulary.{Sep, Usage, takes_out}

@@ -9,7 +9,7 @@ use Rattle.geli_core.specs.Script.{Whole, script_limit}
 use Rattle.geli_core.specs.Served.{ByTrace, RunsUnless, status_by}
 use Rattle.geli_core.specs.Trace.{Trace, answers_of, lines_of}
 use Rattle.geli_core.specs.Vocabulary.{Sep, command_in, line_limit, line_of, script_images}
-use Rattle.geli_core.specs.declared.status.Status.{Status}
+use Rattle.run_status.specs.declared.status.Status.{Status}
 
 -- the bytes are fewer than are too many for a script, and at any place those without a newline among them are at most
 -- those of a line

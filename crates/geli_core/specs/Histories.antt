@@ -4,7 +4,7 @@ use Rattle.std.specs.List.{AllByRecursion, list_any}
 use Rattle.std.specs.Str.{bytes_eq}
 use Rattle.command_rows.specs.Rows.{Answer, DrawerState, World}
 use Rattle.command_rows.specs.Vocabulary.{Command, Event, Logs, Span, bytes_at, provider_of}
-use Rattle.command_rows.specs.Answer as answers
+use Rattle.reply_text.specs.Answer as answers
 use Rattle.geli_core.specs.Trace.{ServedLine, Trace}
 use Rattle.geli_core.specs.Vocabulary.{AreRowEvents, EventsBy, Sep, Usage, line_reading, stores_last, takes_out}
 

@@ -6,7 +6,7 @@ use Rattle.geli_core.specs.Lawful.{RunsLawfully}
 use Rattle.geli_core.specs.Script.{Whole}
 use Rattle.geli_core.specs.Vocabulary.{AddFault, Shelved, drawers_of}
 use Rattle.geli_core.specs.declared.images.NotShelved.{NotShelved}
-use Rattle.geli_core.specs.declared.status.Status.{Status}
+use Rattle.run_status.specs.declared.status.Status.{Status}
 use Rattle.shelf.specs.Adding.{most_drawers}
 use Rattle.shelf.specs.declared.drawers.AddFault.TheVariants.{Full, Taken, NoMemory}
 

@@ -11,7 +11,7 @@ use Rattle.geli_core.specs.Suspensions.{AreSuspended, LineResumes}
 use Rattle.geli_core.specs.Sweeps.{Course, EachBegins}
 use Rattle.geli_core.specs.Trace.{EachLine, IsTrace, ServedLine, Trace}
 use Rattle.geli_core.specs.Vocabulary.{Sep, line_reading}
-use Rattle.geli_core.specs.declared.status.Status.{Status}
+use Rattle.run_status.specs.declared.status.Status.{Status}
 
 -- What holds of each drawer that is there after these lines. `survivors`: it was there at entry and did steps line by
 -- line. If its disk reports its content, and power fails at any moment of them, each image that is left reads unit by

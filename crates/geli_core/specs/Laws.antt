@@ -3,14 +3,15 @@ use Rattle.std.specs.Prelude.{◌≡◌, ℕ, IsTrue, List, Option, Some, Result
 use Rattle.command_rows.specs.Rows.{Answer, World}
 use Rattle.command_rows.specs.Vocabulary.{Command, Refusal, SinkState, Span, bytes_at, provider_of}
 use Rattle.eli_base.specs.declared.refusals.Refusal.TheVariants as refusals
-use Rattle.command_rows.specs.Answer as answers
+use Rattle.reply_text.specs.Answer as answers
 use Rattle.command_rows.specs.Counts.{CountsFailures}
 use Rattle.command_rows.specs.Fits.{FindsAt, Fits}
 use Rattle.command_rows.specs.Stops.{LeavesOldOrNew}
 use Rattle.command_rows.specs.Storing.{StoresItsFile}
-use Rattle.geli_core.specs.Run.{PrintsAnswer, ServesLine}
+use Rattle.geli_core.specs.Run.{ServesLine}
+use Rattle.reply_text.specs.LineEnds.{PrintsAnswer}
 use Rattle.geli_core.specs.Vocabulary.{BecomesSo, Caused, OnlySteps, Sep, Usage, WriteEnd, line_reading, may_lack_memory}
-use Rattle.geli_core.specs.declared.serving.LineEnd.{LineEnd}
+use Rattle.reply_text.specs.declared.line_ends.LineEnd.{LineEnd}
 
 -- this holds of the refusal, if the reply is one
 abbrev pub IfRefused : Answer → (Refusal → Type 0) → Type 0

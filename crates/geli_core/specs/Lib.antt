@@ -15,7 +15,6 @@ pub mod Run
 pub mod Script
 pub mod Served
 pub mod Sites
-pub mod Status
 pub mod Suspensions
 pub mod Survivors
 pub mod Sweeps

@@ -5,7 +5,7 @@ use Rattle.command_rows.specs.Rows.{Answer, Attachment, DrawerState, IsAmong, Pl
 use Rattle.command_rows.specs.Vocabulary.{Command, Content, Event, JobWords, Keying, Logs, bytes_at}
 use Rattle.command_words.specs.declared.commands.JobWords.TheVariants as words
 use Rattle.eli_base.specs.declared.refusals.Refusal.TheVariants as refusals
-use Rattle.command_rows.specs.Answer as answers
+use Rattle.reply_text.specs.Answer as answers
 use Rattle.geli_core.specs.Histories.{ServesDrawer}
 use Rattle.geli_core.specs.Trace.{ServedLine, world_behind}
 use Rattle.geli_core.specs.Vocabulary.{Closes, Flushes, Play, Reads, Sep, Step, Task, Work, Writes, Writing, cell, data_steps, exchange_task, put_task, raw_steps, task_after, task_with, unit_steps, verb_of, without_task, words_of_sectors, workload}

@@ -4,7 +4,7 @@ use Rattle.std.specs.Prelude.{◌≡◌, ℕ, List, Option, Some, IfSome, Result
 use Rattle.command_rows.specs.Rows.{Answer, Attachment, DrawerState, IsAttached, RunKind, World, place_of}
 use Rattle.command_rows.specs.Vocabulary.{Content, Keying, Span, bytes_at, sha256}
 use Rattle.eli_base.specs.declared.refusals.Refusal.TheVariants as refusals
-use Rattle.command_rows.specs.Answer as answers
+use Rattle.reply_text.specs.Answer as answers
 use Rattle.command_rows.specs.Verb as kinds
 use Rattle.geli_core.specs.Placing.{DrawerPlays}
 use Rattle.geli_core.specs.Survivors.{SurvivesBy}

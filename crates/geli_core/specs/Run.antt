@@ -4,10 +4,10 @@ use Rattle.std.specs.List.{flat_map, list_any}
 use Rattle.command_rows.specs.Rows.{Answer, World, answer_text}
 use Rattle.command_rows.specs.Vocabulary.{Command, SinkState, TookAll, TookPart}
 use Rattle.eli_base.specs.declared.refusals.Refusal.TheVariants as refusals
-use Rattle.command_rows.specs.Answer as answers
+use Rattle.reply_text.specs.Answer as answers
 use Rattle.geli_core.specs.Vocabulary.{Sep, Turn, Usage, WriteEnd, line_reading}
-use Rattle.geli_core.specs.declared.serving.LineEnd.{LineEnd}
-use Rattle.geli_core.specs.declared.serving.LineEnd.TheVariants.{Silent, Accepted, Refused}
+use Rattle.reply_text.specs.LineEnds.{PrintsAnswer}
+use Rattle.reply_text.specs.declared.line_ends.LineEnd.{LineEnd}
 
 -- ---- one line
 
@@ -26,25 +26,6 @@ ServesLine sep line old answer new = ServesReading (line_reading sep line) line 
 abbrev pub text_of : Option Answer → List ℕ
 text_of None = []
 text_of (Some answer) = answer_text answer
-
--- how a line ends
-abbrev pub end_of : Option Answer → LineEnd
-end_of None = Silent
-end_of (Some (answers.Refused refusal)) = Refused
-end_of (Some answer) = Accepted
-
--- whether a refusal was printed
-abbrev pub is_refusal : LineEnd → Bool
-is_refusal Silent = false
-is_refusal Accepted = false
-is_refusal Refused = true
-
--- if there is no reply, the line is silent and the sink is as it was; else the reply was printed, or the sink failed,
--- after a part of it
-abbrev pub PrintsAnswer : Option Answer → SinkState → Result LineEnd WriteEnd → SinkState → Type 0
-PrintsAnswer None old result new = (result ≡ Ok Silent) × (new ≡ old)
-PrintsAnswer (Some answer) old (Ok end) new = (end ≡ end_of (Some answer)) × TookAll (answer_text answer) old new
-PrintsAnswer (Some answer) old (Err failed) new = TookPart (answer_text answer) old new
 
 -- a line was served, and then its reply was printed
 pub record ServesAndPrints (sep : Sep) (line : List ℕ) (old : World) (sink : SinkState) (result : Result LineEnd WriteEnd) (new : World) (after : SinkState) : Type 0 where

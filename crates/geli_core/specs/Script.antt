@@ -9,8 +9,8 @@ use Rattle.geli_core.specs.Lines.{CutsInto, last_line}
 use Rattle.geli_core.specs.Run.{FailsInClosing, FailsInLast, answers_text, any_refused, closing_answers}
 use Rattle.geli_core.specs.Trace.{IsNothing, Trace, answers_of, lines_of}
 use Rattle.geli_core.specs.Vocabulary.{command_in, line_limit, line_of, script_images}
-use Rattle.geli_core.specs.declared.status.Status.{Status}
-use Rattle.geli_core.specs.declared.status.Status.TheVariants.{Done, SomeRefused, BadWords, ReadFault, WriteFault, NoMemory, LineTooLong, ScriptTooLong}
+use Rattle.run_status.specs.declared.status.Status.{Status}
+use Rattle.run_status.specs.declared.status.Status.TheVariants.{Done, SomeRefused, BadWords, ReadFault, WriteFault, NoMemory, LineTooLong, ScriptTooLong}
 
 -- all that a run may change
 pub record Whole : Type 0 where

@@ -7,7 +7,7 @@ use Rattle.command_rows.specs.Vocabulary.{FailsIn, KeyWords, Logs, Span, UserKey
 use Rattle.command_words.specs.declared.commands.Command.TheVariants as commands
 use Rattle.key_slots.specs.Slots.{Opens}
 use Rattle.suspend.specs.Resuming.{AreCollision}
-use Rattle.command_rows.specs.Answer as answers
+use Rattle.reply_text.specs.Answer as answers
 use Rattle.command_rows.specs.verbs.Attach.{OpensWith}
 use Rattle.command_rows.specs.Verb.{OfOther, OfRead, OfReap, OfSum, OfSweep}
 use Rattle.command_rows.specs.verbs.Suspend.{kept_by}

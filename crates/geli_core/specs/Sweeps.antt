@@ -5,7 +5,7 @@ use Rattle.std.specs.Option.{option_map}
 use Rattle.std.specs.Str.{bytes_eq}
 use Rattle.command_rows.specs.Rows.{Answer, Attachment, DrawerState, IsAttached, OfSweep, RunKind, World, place_of}
 use Rattle.command_rows.specs.Vocabulary.{Keying, bytes_at, cut_count, media, place_after, sectors_after, units}
-use Rattle.command_rows.specs.Answer as answers
+use Rattle.reply_text.specs.Answer as answers
 use Rattle.command_rows.specs.Verb.{OfOther, OfRead, OfReap, OfResume, OfSum}
 use Rattle.command_rows.specs.verbs.Verify.{ListsUnits}
 use Rattle.geli_core.specs.Kinds.{kind_read}

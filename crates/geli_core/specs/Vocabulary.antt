@@ -23,7 +23,7 @@ pub use Rattle.readings.specs.Steps.{Flush, Step, after, cell, event_of, events_
 pub use Rattle.readings.specs.Survivors.{AreSteps, chosen, content_media, moment, placed}
 pub use Rattle.readings.specs.Writes.{AreStepsBelow, IsNumberedBelow, data_steps, raw_steps}
 pub use Rattle.readings.specs.Writings.{Put, Raw, Writing}
-pub use Rattle.reply_text.specs.declared.print.WriteEnd.{WriteEnd}
+pub use Rattle.text_page.specs.declared.print.WriteEnd.{WriteEnd}
 pub use Rattle.shelf.specs.Closing.{Closes, ClosesAs, ClosesWorld, Closing, failures}
 pub use Rattle.shelf.specs.Shelved.{Shelved, drawers_of, world_of}
 pub use Rattle.shelf.specs.declared.drawers.AddFault.{AddFault}

@@ -3,20 +3,21 @@ ghost use Rattle.std.specs.Prelude.{◌≡◌, ◌≤◌, ℕ, List, IfErr, leng
 ghost use Rattle.block_traits.specs.Streams.{SourceState};
 ghost use Rattle.std.specs.Io.KnownBytes.{prepend_known};
 ghost use Rattle.command_words.specs.Reading.{line_limit};
-ghost use Rattle.reply_text.specs.Output.{Prints};
+ghost use Rattle.text_page.specs.Output.{Prints};
 ghost use Rattle.geli_core.specs.Run.{answers_text, closing_answers};
 ghost use Rattle.geli_core.specs.Script.{MetNothing, RunsScript, script_limit};
 ghost use Rattle.geli_core.specs.Served.{ClosesAndPrints, EndsLines, FeedsUpTo, IsServed, SiteState, StopsWithin, Traced, status_by, whole_of};
 ghost use Rattle.geli_core.specs.Sites.{BorrowsAsBefore, site_now};
 
-use crate::Status;
 use crate::feeding::{Ending, Stop};
 use crate::serving::either;
 use crate::site::Site;
 use block_traits::{Cabinet, Disk, Entropy, Sink};
 use command_words::Sep;
 use eli_base::Refusal;
-use reply_text::{Reply, WriteEnd, write_reply};
+use reply_text::{Reply, write_reply};
+use run_status::Status;
+use text_page::WriteEnd;
 
 // Prints a refusal for each flush that failed.
 fn print_failures<K: Sink>(failed: u32, output: &mut K) -> Result<(), WriteEnd>

@@ -7,11 +7,11 @@ ghost use Rattle.geli_core.specs.Images.{IsNotShelved, RunsOver, disks_back, idl
 ghost use Rattle.geli_core.specs.Sites.{HasAsBefore, ReachesAsBefore, outside_now};
 ghost use Rattle.shelf.specs.Shelved.{drawers_of};
 
-use crate::Status;
 use crate::outside::Outside;
 use crate::top_call::{geli_main, run};
 use block_traits::{Cabinet, Disk, Entropy, Sink, Source};
 use command_words::Words;
+use run_status::Status;
 use shelf::{AddFault, Drawers, Shelf};
 use std::alloc::Global;
 

@@ -9,8 +9,8 @@ ghost use Rattle.geli_core.specs.Lawful.{RunsLawfully};
 ghost use Rattle.geli_core.specs.Run.{ServesLine};
 ghost use Rattle.geli_core.specs.Script.{Ends, StatusHasCause, Whole};
 ghost use Rattle.geli_core.specs.Trace.{Run, ServedLine};
-ghost use Rattle.geli_core.specs.declared.status.Status.{Status};
-ghost use Rattle.command_rows.specs.Answer.{Answer};
+ghost use Rattle.run_status.specs.declared.status.Status.{Status};
+ghost use Rattle.reply_text.specs.Answer.{Answer};
 ghost use Rattle.command_rows.specs.World.{DrawerState, World};
 
 /// While lines are served each drawer keeps its name, until a line takes it out. The history of its disk grows by

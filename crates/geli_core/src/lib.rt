@@ -11,7 +11,6 @@ mod outside;
 mod requests;
 mod serving;
 mod site;
-mod status;
 mod survivors;
 mod top_call;
 
@@ -27,13 +26,13 @@ pub use laws::{
 };
 pub use line::serve_line;
 pub use outside::Outside;
+pub use reply_text::LineEnd;
 pub use requests::{
     flushes_cover_reaped_writes, missing_requests_are_refused, requests_alone_are_lines,
     requests_are_of_their_providers,
 };
-pub use serving::LineEnd;
+pub use run_status::Status;
 pub use shelf::{AddFault, Drawers, Shelf};
-pub use status::Status;
 pub use survivors::{
     crashed_runs_attach_and_read, lines_keep_keyings, lines_survive_crashes, runs_survive_crashes,
 };

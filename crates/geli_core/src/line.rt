@@ -4,12 +4,12 @@ ghost use Rattle.command_words.specs.Reading.{line_limit};
 ghost use Rattle.shelf.specs.Shelved.{world_of};
 ghost use Rattle.geli_core.specs.Laws.{ServesLawfully};
 
-use crate::serving::LineEnd;
 use crate::site::Site;
 use block_traits::{Cabinet, Disk, Entropy, Sink};
 use command_words::Sep;
-use reply_text::WriteEnd;
+use reply_text::LineEnd;
 use shelf::Drawers;
+use text_page::WriteEnd;
 
 /// Reads, serves and prints one line of at most 300,000 bytes. It returns `Silent` exactly if the line says nothing,
 /// and `Refused` exactly if the printed reply is a refusal. It returns `WriteEnd` only if the sink failed; the line was

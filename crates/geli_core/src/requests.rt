@@ -5,7 +5,7 @@ ghost use Rattle.command_words.specs.declared.commands.Command.TheVariants.{Reap
 ghost use Rattle.command_words.specs.declared.commands.JobWords.{JobWords};
 ghost use Rattle.command_words.specs.declared.spans.Sep.{Sep};
 ghost use Rattle.command_words.specs.declared.spans.Span.{Span};
-ghost use Rattle.command_rows.specs.Answer.{Answer, Done, Refused};
+ghost use Rattle.reply_text.specs.Answer.{Answer, Done, Refused};
 ghost use Rattle.command_rows.specs.Turn.{Serves};
 ghost use Rattle.command_rows.specs.World.{Attachment, DrawerState, HoldKeyings, IsAmong, IsAttached, Reach, World};
 ghost use Rattle.eli_base.specs.declared.refusals.Refusal.{Refusal};

@@ -1,74 +1,24 @@
 //! One line is read, served and printed.
-ghost use Rattle.std.specs.Prelude.{◌≡◌, ◌≤◌, ◌||◌, ℕ, List, Some, length};
+ghost use Rattle.std.specs.Prelude.{◌≡◌, ◌≤◌, ◌||◌, Some, length};
 ghost use Rattle.command_words.specs.Bounds.{IsBounded};
 ghost use Rattle.command_words.specs.Places.{CommandIsWithin};
 ghost use Rattle.command_words.specs.Reading.{line_limit, line_reading};
 ghost use Rattle.command_words.specs.declared.spans.Sep.{Sep};
-ghost use Rattle.reply_text.specs.Text.{FitsPayload};
-ghost use Rattle.command_rows.specs.Answer.{answer_of};
-ghost use Rattle.geli_core.specs.Run.{PrintsAnswer, ServesAndPrints, end_of, is_refusal};
+ghost use Rattle.geli_core.specs.Run.{ServesAndPrints};
 ghost use Rattle.geli_core.specs.Sites.{BorrowsAsBefore, site_now};
 
 use crate::site::Site;
 use block_traits::{Cabinet, Disk, Entropy, Sink};
 use command_words::{Command, Sep, read_line};
 use eli_base::Refusal;
-use reply_text::{Reply, WriteEnd, write_reply};
-
-/// How a line ended.
-#[derive(Clone, Copy, Debug, PartialEq, Eq)]
-pub enum LineEnd {
-    /// The line says nothing, and nothing was printed.
-    Silent,
-    /// What was printed is no refusal.
-    Accepted,
-    /// A refusal was printed.
-    Refused,
-}
+use reply_text::{LineEnd, Reply, print};
+use text_page::WriteEnd;
 
 /// Whether one of two is true.
 pub(crate) fn either(first: bool, second: bool) -> bool
     ensures { result ≡ (first || second) }
 {
     first || second
-}
-
-impl LineEnd {
-    /// Whether a refusal was printed.
-    pub fn is_refusal(self) -> bool
-        ensures { result ≡ is_refusal self }
-    {
-        match self {
-            LineEnd::Silent | LineEnd::Accepted => false,
-            LineEnd::Refused => true,
-        }
-    }
-}
-
-fn end_of(reply: &Reply) -> LineEnd
-    ensures { (bytes : List ℕ) → result ≡ end_of (Some (answer_of bytes reply.now)) }
-{
-    match reply {
-        Reply::Refused(_) => LineEnd::Refused,
-        Reply::Done => LineEnd::Accepted,
-        Reply::Payload { .. } => LineEnd::Accepted,
-        Reply::Digest(_) => LineEnd::Accepted,
-        Reply::Rows(_) => LineEnd::Accepted,
-        Reply::Dump(_) => LineEnd::Accepted,
-        Reply::Tag { .. } => LineEnd::Accepted,
-        Reply::Left { .. } => LineEnd::Accepted,
-        Reply::Verified { .. } => LineEnd::Accepted,
-    }
-}
-
-// Prints a reply, whose payload stands at the front of these bytes.
-#[tactic(auto, using(command_rows::proofs::Replies::text_of_reply))]
-fn print<K: Sink>(reply: &Reply, payload: &[u8], output: &mut K) -> Result<LineEnd, WriteEnd>
-    requires { FitsPayload (length payload.now) reply.now }
-    ensures { PrintsAnswer (Some (answer_of payload.now reply.now)) (K.state output.old) result (K.state output.new) }
-{
-    write_reply(reply, payload, output)?;
-    Ok(end_of(reply))
 }
 
 impl<K: Sink, C: Cabinet, E: Entropy, D: Disk> Site<'_, K, C, E, D> {

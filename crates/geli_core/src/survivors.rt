@@ -7,7 +7,7 @@ ghost use Rattle.geli_core.specs.Lawful.{RunsLawfully};
 ghost use Rattle.geli_core.specs.Script.{Whole};
 ghost use Rattle.geli_core.specs.Survivors.{EachSurvives, EachSurvivesRun, EnduresCrashes};
 ghost use Rattle.geli_core.specs.Trace.{IsTrace, Run, ServedLine, Trace};
-ghost use Rattle.geli_core.specs.declared.status.Status.{Status};
+ghost use Rattle.run_status.specs.declared.status.Status.{Status};
 ghost use Rattle.readings.specs.Steps.{Step};
 ghost use Rattle.command_rows.specs.World.{DrawerState, HoldKeyings, IsAmong, World};
 

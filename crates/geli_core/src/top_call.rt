@@ -13,14 +13,14 @@ ghost use Rattle.geli_core.specs.Served.{RunsUnless, Traced, whole_of};
 ghost use Rattle.geli_core.specs.Sites.{BorrowsAsBefore, ReachesAsBefore, outside_now, site_now};
 ghost use Rattle.shelf.specs.Shelved.{drawers_of};
 
-use crate::Status;
 use crate::outside::Outside;
 use crate::site::Site;
 use block_traits::{Cabinet, Disk, Entropy, Sink, Source};
 use command_words::{Command, LINE_LIMIT, Words, read_words};
-use reply_text::write_text;
+use run_status::Status;
 use shelf::{Drawers, Shelf};
 use std::alloc::Global;
+use text_page::write_text;
 
 const USAGE: &[u8] = b"usage: geli script IMAGE... or geli VERB ...\n";
 

@@ -3,8 +3,8 @@ use Rattle.std.proofs.Common.{◌≡◌, List, ℕ, subst}
 use Rattle.block_traits.specs.Causes.{Rose}
 use Rattle.geli_core.specs.Lawful.{RunsLawfully}
 use Rattle.geli_core.specs.Script.{StatusHasCause, Whole}
-use Rattle.geli_core.specs.declared.status.Status.{Status}
-use Rattle.geli_core.specs.declared.status.Status.TheVariants.{ReadFault, WriteFault}
+use Rattle.run_status.specs.declared.status.Status.{Status}
+use Rattle.run_status.specs.declared.status.Status.TheVariants.{ReadFault, WriteFault}
 use Rattle.geli_core.proofs.Lawful.{run_caused}
 
 pub read_failed : (words : List (List ℕ)) (old new : Whole) (status : Status) → RunsLawfully words old status new → status ≡ ReadFault → Rose old.source.faults new.source.faults

@@ -6,7 +6,7 @@ use Rattle.block_traits.specs.Streams.{EntropyState, SinkState, SourceState}
 use Rattle.command_rows.specs.World.{DrawerState}
 use Rattle.command_words.specs.Images.{image_names}
 use Rattle.geli_core.specs.Images.{OutsideState, RunsOver, outside_of}
-use Rattle.geli_core.specs.declared.status.Status.{Status}
+use Rattle.run_status.specs.declared.status.Status.{Status}
 
 pub over_new : (words names : List (List ℕ)) (disks : List DiskState) (old : OutsideState) (status : Status) (left : List DrawerState) (new begun : OutsideState)
     → names ≡ image_names words → old ≡ begun → RunsOver words names disks old status left new → RunsOver words (image_names words) disks begun status left new

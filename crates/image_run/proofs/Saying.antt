@@ -6,7 +6,7 @@ use Rattle.command_words.specs.Said.{Says}
 use Rattle.command_words.specs.declared.commands.Command.{Command}
 use Rattle.command_words.specs.declared.words.Words.{Words}
 use Rattle.command_words.specs.declared.words.Words.TheVariants.{Script, One, Usage}
-use Rattle.image_run.specs.Program.{changes_by, changes_images, changes_said}
+use Rattle.command_words.specs.Changes.{changes_by, changes_images, changes_said}
 
 -- by the words and by what they say, it is the same whether the images are to be changed
 pub same_changes : (words : List (List ℕ)) (said : Words) → Says words said → changes_said said ≡ changes_images words

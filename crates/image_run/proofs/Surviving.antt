@@ -16,7 +16,7 @@ use Rattle.geli_core.specs.Lawful.{LineHolds}
 use Rattle.geli_core.specs.Survivors.{EnduresCrashes, SurvivesBy}
 use Rattle.geli_core.specs.Trace.{EachLine, ServedLine}
 use Rattle.geli_core.specs.Vocabulary.{Play, Sep}
-use Rattle.geli_core.specs.declared.status.Status.{Status}
+use Rattle.run_status.specs.declared.status.Status.{Status}
 use Rattle.image_layers.specs.Images.{IfFileTells, TellsImage, image_disk_state}
 use Rattle.image_layers.specs.declared.image_disks.ImageDisk.{ImageDisk}
 use Rattle.image_layers.specs.declared.image_disks.ImageDisk.TheVariants.{Plain, Behind, Join}

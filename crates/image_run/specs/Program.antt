@@ -1,14 +1,10 @@
 -- What a run of the program begins with, and what it does.
-use Rattle.std.specs.Prelude.{ℕ, All, List, map, not, Bool, true, false, Option, None, Some}
+use Rattle.std.specs.Prelude.{ℕ, All, List, map, Option}
 use Rattle.block_traits.specs.Streams.{SinkState, SourceState}
 use Rattle.block_traits.specs.declared.disk.Disk.{Ghosts}
 use Rattle.command_rows.specs.World.{DrawerState}
-use Rattle.command_words.specs.Images.{image_names, line_of, script_images}
-use Rattle.command_words.specs.Reading.{command_in}
-use Rattle.command_words.specs.Traits.{traits_of}
-use Rattle.command_words.specs.declared.commands.Command.{Command}
-use Rattle.command_words.specs.declared.words.Words.{Words}
-use Rattle.command_words.specs.declared.words.Words.TheVariants.{Script, One, Usage}
+use Rattle.command_words.specs.Changes.{changes_images}
+use Rattle.command_words.specs.Images.{image_names}
 use Rattle.file_edge.specs.Asked.{Asked}
 use Rattle.file_edge.specs.FileCabinet.{new_cabinet}
 use Rattle.file_edge.specs.Names.{IsRandom}
@@ -19,30 +15,10 @@ use Rattle.file_edge.specs.declared.image_file.ImageFile as image_file
 use Rattle.file_edge.specs.declared.opener.Opener as opener
 use Rattle.file_edge.specs.declared.random_file.RandomFile.{RandomFile}
 use Rattle.geli_core.specs.Images.{OutsideState, RunsOver, outside_of}
-use Rattle.geli_core.specs.declared.status.Status.{Status}
+use Rattle.run_status.specs.declared.status.Status.{Status}
 use Rattle.image_layers.specs.Images.{AsksFirst, OpensNamed, TellsImage, image_disk_state}
 use Rattle.image_layers.specs.declared.image_disks.ImageDisk.{ImageDisk}
 use Rattle.image_run.specs.Surviving.{SurviveInFiles}
-
--- whether a command only reads its image, by what its verb is (`traits_of`)
-abbrev pub reads_alone : Option Command → Bool
-reads_alone (Some command) = (traits_of command).only_reads
-reads_alone None = false
-
--- whether images are to be changed: those of a script are, and that of a command unless the command only reads
-abbrev pub changes_by : Option (List (List ℕ)) → Option Command → Bool
-changes_by (Some names) said = true
-changes_by None said = not (reads_alone said)
-
--- whether the images of these words are to be changed
-abbrev pub changes_images : List (List ℕ) → Bool
-changes_images words = changes_by (script_images words) (command_in (line_of words))
-
--- whether the images are to be changed, by what the words say
-abbrev pub changes_said : Words → Bool
-changes_said (Script names) = true
-changes_said (One line command) = not (reads_alone (Some command))
-changes_said Usage = true
 
 -- if there was no memory before a run: nothing was asked but the first of the files of the images that the words name
 abbrev pub AsksFirstFiles : {O : Type 0} → (O → Option (List Asked)) → List (List ℕ) → O → O → Type 0

@@ -9,7 +9,7 @@ use Rattle.geli_core.specs.Lawful.{LineHolds}
 use Rattle.geli_core.specs.Survivors.{EnduresCrashes}
 use Rattle.geli_core.specs.Trace.{EachLine, ServedLine}
 use Rattle.geli_core.specs.Vocabulary.{Sep}
-use Rattle.geli_core.specs.declared.status.Status.{Status}
+use Rattle.run_status.specs.declared.status.Status.{Status}
 use Rattle.image_layers.specs.Images.{IfFileTells, TellsImage, image_disk_state}
 use Rattle.image_layers.specs.declared.image_disks.ImageDisk.{ImageDisk}
 use Rattle.readings.specs.Steps.{Step, after}

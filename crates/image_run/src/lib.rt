@@ -1,10 +1,8 @@
 //! The run of the words of the command line over the images that they name.
 #![tactic(auto)]
 
-mod exit;
 mod laws;
 mod run;
 
-pub use exit::exit_code;
 pub use laws::drawers_survive_in_their_files;
 pub use run::run_files;

@@ -4,11 +4,11 @@ ghost use Rattle.block_traits.specs.Causes.{Rose};
 ghost use Rattle.command_words.specs.Images.{script_images};
 ghost use Rattle.geli_core.specs.Images.{outside_of};
 ghost use Rattle.geli_core.specs.Script.{Ends};
-ghost use Rattle.image_run.specs.Program.{AsksFirstFiles, HasOpened, RunsOverFiles, changes_said};
+ghost use Rattle.image_run.specs.Program.{AsksFirstFiles, HasOpened, RunsOverFiles};
 ghost use Rattle.shelf.specs.Shelved.{drawers_of};
 
 use block_traits::{Cabinet, Disk, Entropy, NoMemory, Sink, Source};
-use command_words::{Words, read_words};
+use command_words::{changes, read_words};
 use file_edge::{FileCabinet, FileDisk, ImageFile, Opener, RandomFile};
 use geli_core::{AddFault, Drawers, Outside, Status, run_over};
 use image_layers::{ImageDisk, Opened, open_all};
@@ -68,16 +68,6 @@ pub fn run_files<O: Opener + Drop, S: Source, K: Sink>(
     match run_over(alloc, &said, names.as_slice(), disks, &mut outside) {
         Ok((status, shelf)) => Ok((status, shelf, files, entropy)),
         Err(refused) => Err((files.into_opener(), memory_fault(refused.fault))),
-    }
-}
-
-// Whether the images are to be changed: those of a script are, and that of a command unless the command only reads.
-fn changes(said: &Words<'_>) -> bool
-    ensures { result ≡ changes_said said.now }
-{
-    match said {
-        Words::One { command, .. } => !command.traits().only_reads,
-        Words::Script(_) | Words::Usage => true,
     }
 }
 

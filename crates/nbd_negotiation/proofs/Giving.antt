@@ -4,7 +4,7 @@ use Rattle.std.proofs.lemmas.List.{map-append}
 use Rattle.std.proofs.lemmas.List.Folds.{concat-append}
 use Rattle.std.specs.List.{concat}
 use Rattle.block_traits.specs.Streams.{SinkState, TookAll, TookPart}
-use Rattle.reply_text.proofs.Printing.{TookAll-nothing, TookAll-then}
+use Rattle.text_page.proofs.Printing.{TookAll-nothing, TookAll-then}
 use Rattle.nbd_negotiation.specs.Streams.{GaveButLast, GivesOn, GivesTexts}
 use Rattle.nbd_negotiation.specs.declared.streams.End.{End}
 use Rattle.nbd_negotiation.specs.declared.streams.End.TheVariants.{Closed, ReadFault, WriteFault, Malformed}

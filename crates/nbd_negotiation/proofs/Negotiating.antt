@@ -6,7 +6,7 @@ use Rattle.std.specs.Prelude.{if◌then◌else◌}
 use Rattle.std.proofs.lemmas.Grind.{flat_map-append}
 use Rattle.std.specs.List.{concat, flat_map}
 use Rattle.block_traits.specs.Streams.{SinkState, SourceState, TookAll}
-use Rattle.reply_text.proofs.Printing.{TookAll-nothing}
+use Rattle.text_page.proofs.Printing.{TookAll-nothing}
 use Rattle.nbd_words.specs.Negotiation.{greeting, has_info_shape, option_head_in, option_kind}
 use Rattle.nbd_words.specs.declared.negotiation.ClientFlags.{ClientFlags}
 use Rattle.nbd_words.specs.declared.negotiation.Export.{Export}

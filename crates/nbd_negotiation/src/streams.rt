@@ -2,7 +2,7 @@
 ghost use Rattle.nbd_negotiation.specs.Streams.{Fills, GivesBytes};
 
 use block_traits::{Sink, Source};
-use reply_text::write_text;
+use text_page::write_text;
 
 /// Why a session ended.
 #[derive(Clone, Copy, Debug, PartialEq, Eq)]

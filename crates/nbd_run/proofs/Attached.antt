@@ -5,7 +5,7 @@ use Rattle.block_traits.specs.Disk.{DiskState, Logs}
 use Rattle.block_traits.specs.Streams.{EntropyState}
 use Rattle.command_rows.proofs.Events.{quiet_attaching, quiet_then, quiet_trial}
 use Rattle.command_rows.proofs.Still.{try_still}
-use Rattle.command_rows.specs.Answer as answers
+use Rattle.reply_text.specs.Answer as answers
 use Rattle.command_rows.specs.Replies.{Replies, done_or}
 use Rattle.command_rows.specs.Steps.{Attaches, GoesOn}
 use Rattle.command_rows.specs.Turn.{Serves}

@@ -4,7 +4,7 @@ use Rattle.block_traits.specs.Cabinet.{CabinetState}
 use Rattle.block_traits.specs.Disk.{DiskState}
 use Rattle.block_traits.specs.Streams.{EntropyState, SinkState, SourceState, TookAll, TookPart}
 use Rattle.block_traits.specs.declared.disk.Disk.{Ghosts}
-use Rattle.command_rows.specs.Answer as answers
+use Rattle.reply_text.specs.Answer as answers
 use Rattle.command_rows.specs.Turn.{Serves}
 use Rattle.command_rows.specs.Vocabulary.{Attached, IsKeying, Refusal}
 use Rattle.command_rows.specs.World.{Idle, IsAttached, Reach, reach_of}

@@ -4,7 +4,7 @@ use Rattle.block_traits.specs.Cabinet.{CabinetState}
 use Rattle.block_traits.specs.Disk.{DiskState}
 use Rattle.block_traits.specs.Streams.{EntropyState}
 use Rattle.command_rows.specs.Vocabulary.{Request}
-use Rattle.command_rows.specs.Answer as answers
+use Rattle.reply_text.specs.Answer as answers
 use Rattle.command_rows.specs.Turn.{Serves}
 use Rattle.command_rows.specs.World.{Reach}
 use Rattle.command_words.specs.declared.commands.Command.{Command}

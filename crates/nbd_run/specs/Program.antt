@@ -6,7 +6,7 @@ use Rattle.block_traits.specs.Disk.{DiskState}
 use Rattle.block_traits.specs.Streams.{EntropyState, SinkState, SourceState, TookAll, TookPart}
 use Rattle.block_traits.specs.declared.disk.Disk.{Ghosts}
 use Rattle.block_traits.specs.declared.disk.DiskFailed.{DiskFailed}
-use Rattle.command_rows.specs.Answer as answers
+use Rattle.reply_text.specs.Answer as answers
 use Rattle.command_rows.specs.Turn.{Serves}
 use Rattle.command_rows.specs.Vocabulary.{IsKeying}
 use Rattle.command_rows.specs.World.{Attachment, Idle, IsAttached, Reach, reach_of}

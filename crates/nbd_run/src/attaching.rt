@@ -1,6 +1,6 @@
 //! The provider on a disk is attached, as `geli attach` does.
 ghost use Rattle.std.specs.Prelude.{◌≡◌, IfErr, IfOk, length, true};
-ghost use Rattle.command_rows.specs.Answer as answers;
+ghost use Rattle.reply_text.specs.Answer as answers;
 ghost use Rattle.command_rows.specs.World.{Idle, reach_of};
 ghost use Rattle.command_words.specs.Bounds.{IsBounded};
 ghost use Rattle.command_words.specs.Places.{CommandIsWithin};

@@ -12,8 +12,9 @@ use block_traits::{Disk, Sink, Source};
 use eli_base::{REQUEST_LIMIT, Refusal};
 use nbd_session::{EDGE, ROOM, serve};
 use provider::Provider;
-use reply_text::{Reply, write_reply, write_text};
+use reply_text::{Reply, write_reply};
 use std::alloc::{AllocError, Global};
+use text_page::write_text;
 
 // Serves an attached provider to one client, and returns the disk.
 fn serve_provider<D: Disk, S: Source, K: Sink>(

@@ -6,7 +6,7 @@ use Rattle.std.specs.List.{concat, flat_map, list_any}
 use Rattle.block_traits.specs.Disk.{DiskState}
 use Rattle.block_traits.specs.Streams.{SinkState, SourceState, TookAll}
 use Rattle.provider.specs.Attached.{Attached, IsKept}
-use Rattle.reply_text.proofs.Printing.{TookAll-nothing}
+use Rattle.text_page.proofs.Printing.{TookAll-nothing}
 use Rattle.nbd_negotiation.specs.Streams.{GivesTexts, SourceGave}
 use Rattle.nbd_negotiation.specs.declared.streams.End.{End}
 use Rattle.nbd_negotiation.specs.declared.streams.End.TheVariants.{Closed, ReadFault, WriteFault, Malformed}

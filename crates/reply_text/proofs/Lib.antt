@@ -1,4 +1,4 @@
 pub mod Digits
 pub mod Pieces
-pub mod Printing
 pub mod Offsets
+pub mod AnswerTexts

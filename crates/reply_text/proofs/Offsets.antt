@@ -5,10 +5,10 @@ use Rattle.std.proofs.lemmas.Nat.{from_le_bytes-to_le_bytes_8}
 use Rattle.std.specs.Int.{from_le_bytes, to_le_bytes, w64}
 use Rattle.std.specs.List.{concat}
 use Rattle.reply_text.specs.Text.{bad_line, bad_lines, numbers_in}
-use Rattle.reply_text.proofs.Printing.{concat-more, concat-split}
+use Rattle.text_page.proofs.Printing.{concat-more, concat-split}
 
 -- as many numbers as were asked for
-length-numbers_in : (count : ℕ) (bytes : List ℕ) → length (numbers_in count bytes) ≡ count
+pub length-numbers_in : (count : ℕ) (bytes : List ℕ) → length (numbers_in count bytes) ≡ count
 unfolding numbers_in
 length-numbers_in zero bytes = refl
 length-numbers_in (suc count) bytes = ap suc (length-numbers_in count (drop 8 bytes))

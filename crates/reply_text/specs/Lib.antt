@@ -1,2 +1,3 @@
-pub mod Output
 pub mod Text
+pub mod Answer
+pub mod LineEnds

@@ -1,12 +1,11 @@
 //! Bytes in hexadecimal.
 ghost use Rattle.std.specs.Prelude.{◌≡◌, ◌++◌, ◌≤◌, ◌∷◌, [], length, codes};
 ghost use Rattle.hex.specs.Hex.{encode_lower};
-ghost use Rattle.reply_text.specs.Output.{Puts};
+ghost use Rattle.text_page.specs.Output.{Puts};
 ghost use Rattle.reply_text.specs.Text.{bytes_text};
 
-use crate::WriteEnd;
-use crate::page::{Page, put};
 use block_traits::Sink;
+use text_page::{Page, WriteEnd, put};
 
 // How many bytes make one piece of digits.
 const PIECE: usize = 512;

@@ -2,15 +2,14 @@
 ghost use Rattle.std.specs.Prelude.{◌≡◌, ◌*◌, length, codes, false};
 ghost use Rattle.std.specs.Fmt.{decimal, signed_decimal, digits};
 ghost use Rattle.hex.specs.Hex.{encode_lower};
-ghost use Rattle.reply_text.specs.Output.{Puts};
+ghost use Rattle.text_page.specs.Output.{Puts};
 ghost use Rattle.reply_text.specs.Text.{line, dump_text, format_lines, size_lines, key_lines};
 
-use crate::WriteEnd;
 use crate::hexadecimal::hexadecimal;
-use crate::page::{Page, put};
-use crate::print::{write_line, write_number_line};
+use crate::lines::{write_line, write_number_line};
 use block_traits::Sink;
 use eli_metadata::Metadata;
+use text_page::{Page, WriteEnd, put};
 
 pub(crate) fn write_dump<K: Sink, const N: usize>(
     meta: &Metadata,

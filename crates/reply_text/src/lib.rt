@@ -4,13 +4,13 @@
 mod bytes;
 mod dump;
 mod hexadecimal;
+mod line_ends;
+mod lines;
 mod names;
-mod page;
-mod print;
 mod reply;
 mod rows;
 mod verified;
 
-pub use print::{WriteEnd, write_text};
+pub use line_ends::{LineEnd, print};
 pub use reply::{Reply, write_reply};
 pub use rows::{Row, RowList};

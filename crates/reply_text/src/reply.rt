@@ -1,21 +1,19 @@
 //! The reply to a command, and how it is printed.
 ghost use Rattle.std.specs.Prelude.{◌≡◌, ◌++◌, ◌∷◌, [], length};
-ghost use Rattle.reply_text.specs.Output.{Prints, Puts};
+ghost use Rattle.text_page.specs.Output.{Prints, Puts};
 ghost use Rattle.reply_text.specs.Text.{FitsPayload, reply_text, list_text, refusal_text, refusal_fields, fields_text, decimal_fields, numbers_line, reason_name, refusal_head, field};
 ghost use Rattle.std.specs.Fmt.{decimal};
 
-use crate::WriteEnd;
 use crate::bytes::write_ok_bytes;
 use crate::dump::write_dump;
 use crate::names::{reason_name, refusal_name};
-use crate::page::{Page, give_page, put};
-use crate::print::write_pieces;
 use crate::rows::{Row, RowList, write_rows};
 use crate::verified::write_verified;
 use block_traits::Sink;
 use eli_base::{Reason, Refusal};
 use eli_metadata::Metadata;
 use itoa::Buffer;
+use text_page::{Page, WriteEnd, give_page, put, write_pieces};
 
 // How many bytes the page of a reply has. Each reply clears its page, so a short reply gets a short page.
 const LONG_PAGE: usize = 16384;
@@ -302,7 +300,7 @@ fn fields_of(refusal: &Refusal) -> Fields
     }
 }
 
-#[tactic(auto, using(crate::proofs::Printing::puts_nothing))]
+#[tactic(auto, using(text_page::proofs::Printing::puts_nothing))]
 fn write_fields<K: Sink, const N: usize>(
     refusal: &Refusal,
     page: &mut Page<N>,

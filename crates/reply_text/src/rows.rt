@@ -1,14 +1,13 @@
 //! The drawers, one on each line.
 ghost use Rattle.std.specs.Prelude.{◌≡◌, ◌++◌, codes, ◌∷◌, [], map};
 ghost use Rattle.std.specs.List.{concat};
-ghost use Rattle.reply_text.specs.Output.{Puts};
+ghost use Rattle.text_page.specs.Output.{Puts};
 ghost use Rattle.reply_text.specs.Text.{row_text, row_state, row_lines, sizes_of};
 
-use crate::WriteEnd;
-use crate::page::{Page, put};
 use crate::reply::write_numbers;
 use block_traits::{ByteList, Sink};
 use std::marker::Model;
+use text_page::{Page, WriteEnd, put};
 
 /// A drawer in a list of them.
 #[derive(Debug, Drop)]

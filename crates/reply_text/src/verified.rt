@@ -1,13 +1,12 @@
 //! The units that a sweep lists, one on each line.
 ghost use Rattle.std.specs.Prelude.{◌≡◌, ◌+◌, ◌*◌, ◌≤◌, length, take, drop};
 ghost use Rattle.std.specs.Int.{from_le_bytes, w64};
-ghost use Rattle.reply_text.specs.Output.{Puts};
+ghost use Rattle.text_page.specs.Output.{Puts};
 ghost use Rattle.reply_text.specs.Text.{bad_lines, numbers_in, verified_text};
 
-use crate::WriteEnd;
-use crate::page::Page;
 use crate::reply::write_numbers_line;
 use block_traits::Sink;
+use text_page::{Page, WriteEnd};
 
 // The number at a place among numbers of eight bytes.
 fn number_at(payload: &[u8], place: usize) -> u64

@@ -7,7 +7,7 @@ use Rattle.std.proofs.lemmas.List.{map-set}
 use Rattle.command_rows.specs.Rows.{Answer, DrawerState, Reach, World}
 use Rattle.command_rows.specs.Vocabulary.{Command, DiskState}
 use Rattle.shelf.specs.declared.drawer.Drawer.{Drawer}
-use Rattle.command_rows.specs.Answer as answers
+use Rattle.reply_text.specs.Answer as answers
 use Rattle.shelf.specs.Shelved.{drawer_of, drawers_of}
 use Rattle.command_rows.specs.Turn.{ChangesAt, Serves, ServesAt, reach, takes_out}
 

@@ -7,7 +7,7 @@ use Rattle.std.specs.List.{list_all}
 use Rattle.command_rows.specs.Rows.{SpellsBytes}
 use Rattle.hex.specs.Hex.{is_hex_digit}
 use Rattle.hex.proofs.HexLemmas.{decode_of-digits}
-use Rattle.command_words.specs.Values.{is_hexadecimal}
+use Rattle.word_values.specs.Values.{is_hexadecimal}
 
 and_true : (a b : Bool) → (a && b) ≡ true → (a ≡ true) × (b ≡ true)
 and_true true b h = (refl, h)

@@ -4,7 +4,7 @@ ghost use Rattle.std.specs.Prelude.{ℕ, List, length};
 ghost use Rattle.block_traits.specs.Cabinet.{CabinetState};
 ghost use Rattle.block_traits.specs.Streams.{EntropyState};
 ghost use Rattle.command_words.specs.Places.{CommandIsWithin, KeyIsWithin};
-ghost use Rattle.command_rows.specs.Answer.{answer_of};
+ghost use Rattle.reply_text.specs.Answer.{answer_of};
 ghost use Rattle.shelf.specs.Trying.{IsTrial, tried_in};
 ghost use Rattle.command_rows.specs.Steps.{Attaches, GoesOn};
 ghost use Rattle.command_rows.specs.Turn.{AttachRow, GoesThrough};

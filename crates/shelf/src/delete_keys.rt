@@ -3,7 +3,7 @@
 ghost use Rattle.std.specs.Prelude.{◌≡◌, ℕ, List};
 ghost use Rattle.bio_queue.specs.Requests.{Request};
 ghost use Rattle.block_traits.specs.Cabinet.{CabinetState};
-ghost use Rattle.command_rows.specs.Answer.{answer_of};
+ghost use Rattle.reply_text.specs.Answer.{answer_of};
 ghost use Rattle.command_rows.specs.Turn.{GoesThrough};
 ghost use Rattle.command_rows.specs.World.{Holding, Idle, reach_of};
 ghost use Rattle.command_rows.specs.verbs.Delkey.{DeletesRow, named_slots};

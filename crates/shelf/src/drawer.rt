@@ -3,7 +3,7 @@ ghost use Rattle.command_words.specs.Bounds.{IsBounded};
 ghost use Rattle.command_words.specs.Places.{CommandIsWithin, provider_of};
 ghost use Rattle.command_words.specs.Traits.{needs, traits_of};
 ghost use Rattle.reply_text.specs.Text.{FitsPayload};
-ghost use Rattle.command_rows.specs.Answer.{answer_of};
+ghost use Rattle.reply_text.specs.Answer.{answer_of};
 ghost use Rattle.block_traits.specs.Cabinet.{CabinetState};
 ghost use Rattle.block_traits.specs.Streams.{EntropyState};
 ghost use Rattle.shelf.specs.Closing.{Closes};

@@ -20,7 +20,7 @@ ghost use Rattle.command_words.specs.Bounds.{IsBounded};
 ghost use Rattle.command_words.specs.Places.{CommandIsWithin};
 ghost use Rattle.shelf.specs.Adding.{Adds, RefusesToAdd};
 ghost use Rattle.reply_text.specs.Text.{FitsPayload};
-ghost use Rattle.command_rows.specs.Answer.{answer_of};
+ghost use Rattle.reply_text.specs.Answer.{answer_of};
 ghost use Rattle.shelf.specs.Closing.{Closing, failures};
 ghost use Rattle.command_rows.specs.Turn.{ListsAs, ShowsEvents, Turn, entry_of};
 ghost use Rattle.command_rows.specs.World.{HoldKeyings, NamesDiffer, place_of};

@@ -2,7 +2,7 @@
 
 ghost use Rattle.std.specs.Prelude.{ℕ, List};
 ghost use Rattle.block_traits.specs.Cabinet.{CabinetState};
-ghost use Rattle.command_rows.specs.Answer.{answer_of};
+ghost use Rattle.reply_text.specs.Answer.{answer_of};
 ghost use Rattle.command_rows.specs.Turn.{Replies, done_or};
 ghost use Rattle.command_rows.specs.World.{Holding, reach_of};
 ghost use Rattle.command_rows.specs.verbs.Kill.{KillRow};

@@ -4,7 +4,7 @@ ghost use Rattle.std.specs.Prelude.{◌≡◌, ℕ, IfSome, List, length};
 ghost use Rattle.block_traits.specs.Disk.{DiskState};
 ghost use Rattle.block_traits.specs.Streams.{EntropyState};
 ghost use Rattle.command_words.specs.Places.{CommandIsWithin, IsWithin, KeyIsWithin};
-ghost use Rattle.command_rows.specs.Answer.{answer_of};
+ghost use Rattle.reply_text.specs.Answer.{answer_of};
 ghost use Rattle.command_rows.specs.Steps.{BacksUp};
 ghost use Rattle.command_rows.specs.Turn.{GoesThrough};
 ghost use Rattle.command_rows.specs.World.{Holding, Idle, reach_of};

@@ -1,6 +1,6 @@
 //! What a command returns, as a reply.
 ghost use Rattle.std.specs.Prelude.{◌≡◌, ◌*◌, ◌≤◌, ℕ, List, IfOk, IfSome};
-ghost use Rattle.command_rows.specs.Answer.{answer_of};
+ghost use Rattle.reply_text.specs.Answer.{answer_of};
 ghost use Rattle.command_rows.specs.Requests.{bytes_given, bytes_read};
 ghost use Rattle.eli_base.specs.Requests.{request_limit};
 ghost use Rattle.command_rows.specs.Turn.{digest_or, done_or, dump_or, left_or, payload_or, reaped_or, tag_or};

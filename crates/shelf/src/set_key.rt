@@ -5,7 +5,7 @@ ghost use Rattle.bio_queue.specs.Requests.{Request};
 ghost use Rattle.block_traits.specs.Cabinet.{CabinetState};
 ghost use Rattle.block_traits.specs.Streams.{EntropyState};
 ghost use Rattle.command_words.specs.Places.{CommandIsWithin, KeyIsWithin};
-ghost use Rattle.command_rows.specs.Answer.{answer_of};
+ghost use Rattle.reply_text.specs.Answer.{answer_of};
 ghost use Rattle.command_rows.specs.Turn.{GoesThrough};
 ghost use Rattle.eli_metadata.specs.Checks.{settings_of, supported};
 ghost use Rattle.key_commands.specs.NewKey.{KeyChange};

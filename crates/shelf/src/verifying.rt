@@ -7,7 +7,7 @@ ghost use Rattle.block_traits.specs.Cabinet.{CabinetState};
 ghost use Rattle.block_traits.specs.Disk.{DiskState};
 ghost use Rattle.block_traits.specs.Streams.{EntropyState};
 ghost use Rattle.command_words.specs.Places.{CommandIsWithin, IsWithin};
-ghost use Rattle.command_rows.specs.Answer.{answer_of};
+ghost use Rattle.reply_text.specs.Answer.{answer_of};
 ghost use Rattle.command_rows.specs.Turn.{GoesThrough};
 ghost use Rattle.reply_text.specs.Text.{FitsPayload};
 ghost use Rattle.provider.specs.Attached.{has_tags};

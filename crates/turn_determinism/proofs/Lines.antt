@@ -5,7 +5,7 @@ use Rattle.command_rows.specs.Rows.{Answer, AttachedWith, Attachment, Holding, K
 use Rattle.command_rows.specs.Vocabulary.{CabinetState, Command, InitOptions, Refusal, bytes_at, file_limit}
 use Rattle.command_words.specs.declared.commands.Command.TheVariants as commands
 use Rattle.eli_base.specs.declared.refusals.Refusal.TheVariants as refusals
-use Rattle.command_rows.specs.Answer as answers
+use Rattle.reply_text.specs.Answer as answers
 use Rattle.command_rows.specs.Gate.{needs, refused_by}
 use Rattle.command_rows.specs.Turn.{GoesThrough, IsRefused, Replies, Serves}
 use Rattle.command_rows.specs.verbs.Fill.{words_of_sectors, workload}

@@ -4,7 +4,7 @@ use Rattle.std.proofs.Math.ListN.{set}
 use Rattle.command_rows.specs.Rows.{Answer, DrawerState, Holding, Idle, IsAttached, IsSuspended, Reach, World, place_of}
 use Rattle.command_rows.specs.Vocabulary.{Command, DiskState, Span, bytes_at, provider_of}
 use Rattle.eli_base.specs.declared.refusals.Refusal.TheVariants as refusals
-use Rattle.command_rows.specs.Answer as answers
+use Rattle.reply_text.specs.Answer as answers
 use Rattle.command_rows.specs.Counts.{CountsFailures}
 use Rattle.command_rows.specs.Fits.{FailsNowhere}
 use Rattle.command_rows.specs.Turn.{ChangesAt, IsUnknown, ListsDrawers, ListsAs, Serves, ServesAt, TakesOutDrawer, Turn, TurnOf, entry_by, entry_of, reach, takes_out}

@@ -3,7 +3,7 @@ use Rattle.std.specs.Prelude.{◌≡◌, ◌≢◌, ℕ, List, IfSome}
 use Rattle.command_rows.specs.Rows.{Answer, DrawerState, World}
 use Rattle.command_rows.specs.Vocabulary.{Command, Rose, bytes_at, provider_of}
 use Rattle.eli_base.specs.declared.refusals.Refusal.TheVariants as refusals
-use Rattle.command_rows.specs.Answer as answers
+use Rattle.reply_text.specs.Answer as answers
 use Rattle.turn_determinism.specs.Places.{IsNamedAt, StandsAt}
 
 -- the count of faults of the disk of the drawer with this name didn't rise, if the drawer is still in its place

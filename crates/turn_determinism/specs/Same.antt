@@ -3,7 +3,7 @@ use Rattle.std.specs.Prelude.{◌≡◌, ℕ, ◌-◌, ◌^◌, min, List, [], �
 use Rattle.command_rows.specs.Rows.{Answer, DrawerState, World}
 use Rattle.command_rows.specs.Vocabulary.{CabinetState, DiskState, EntropyState, Refusal}
 use Rattle.eli_base.specs.declared.refusals.Refusal.TheVariants as refusals
-use Rattle.command_rows.specs.Answer as answers
+use Rattle.reply_text.specs.Answer as answers
 
 -- both counts are the same, or neither is below the last value
 abbrev pub IsSameCount : ℕ → ℕ → Type 0

@@ -1,6 +1,6 @@
 //! That a line does one thing.
 ghost use Rattle.std.specs.Prelude.{◌≡◌, ℕ, List};
-ghost use Rattle.command_rows.specs.Answer.{Answer};
+ghost use Rattle.reply_text.specs.Answer.{Answer};
 ghost use Rattle.command_rows.specs.Turn.{Turn};
 ghost use Rattle.command_rows.specs.World.{World};
 ghost use Rattle.command_words.specs.declared.commands.Command.{Command};

@@ -5,7 +5,7 @@ use Rattle.std.specs.List.Sorted.{IsStrictlyIncreasing}
 use Rattle.std.specs.Prelude.{All, Bool, Contains, Err, List, None, Ok, Option, Result, Some, [], false, if◌then◌else◌, length, nat_le, nat_lt, true, ℕ, ◌*◌, ◌+◌, ◌↔◌, ◌≡◌, ◌≤◌, ◌⊎◌}
 use Rattle.eli_base.specs.declared.refusals.Refusal.TheVariants as refusals
 use Rattle.sector_runs.specs.Reads.{FailsAmong}
-use Rattle.command_rows.specs.Answer as answers
+use Rattle.reply_text.specs.Answer as answers
 use Rattle.command_rows.specs.Rows.{Answer, AttachedWith, Attachment, Decides, DecidesBySize, IsFile, LoadsFile, NoChanges, NoEvents, OfSweep, Reach, ReadsDisk, RefusesFile, Replies, StoresBytes, Then, Verb, asks_nothing, places_nothing}
 use Rattle.command_rows.specs.Vocabulary.{CabinetState, Counted, DiskState, Fails, Files, IsSector, Keying, Logs, Refusal, Span, StandFrom, Sweep, bytes_at, failing_units, has_tags, le64, media, media_sectors, sectors_swept, sweep_at, units}
 

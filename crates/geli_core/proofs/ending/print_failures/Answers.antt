@@ -1,4 +1,4 @@
-use Rattle.reply_text.proofs.Printing.{Prints-failed, TookAll-nothing, TookAll-then, TookPart-more, TookPart-then}
+use Rattle.text_page.proofs.Printing.{Prints-failed, TookAll-nothing, TookAll-then, TookPart-more, TookPart-then}
 use Rattle.geli_core.proofs.Endings.{failures_text-more, failures_text-split}
 use Rattle.geli_core.proofs.ending.print_failures.Goals as goal
 

@@ -1,6 +1,6 @@
 -- What the row left, by what the drawer holds.
 use Rattle.std.proofs.Common.{ap}
-use Rattle.command_rows.specs.Answer.{answer_of}
+use Rattle.reply_text.specs.Answer.{answer_of}
 use Rattle.nbd_run.proofs.Attached.{attached_so, idle_so, is_refusal, refused_so, suspended_so}
 use Rattle.nbd_run.proofs.attaching.attach.Goals as goal
 

@@ -1,6 +1,6 @@
 use Rattle.std.proofs.Common.{◌≡◌, ◌+◌, ◌-◌, arith}
 use Rattle.reply_text.proofs.Pieces.{encode-nothing, encode-more, encode-split}
-use Rattle.reply_text.proofs.Printing.{Puts-failed, PutsAll-nothing, PutsAll-then, PutsPart-more, PutsPart-then}
+use Rattle.text_page.proofs.Printing.{Puts-failed, PutsAll-nothing, PutsAll-then, PutsPart-more, PutsPart-then}
 use Rattle.reply_text.proofs.bytes.write_bytes.Goals as goal
 
 pub pieces-init : goal.pieces-init

@@ -1,5 +1,5 @@
 use Rattle.std.proofs.Common.{◌≤◌, ◌-◌, length, take}
-use Rattle.reply_text.specs.Output.{PutsAll}
+use Rattle.text_page.specs.Output.{PutsAll}
 use Rattle.hex.specs.Hex.{encode_lower}
 use Rattle.reply_text.proofs.bytes.write_bytes.Given as goal
 

@@ -1,6 +1,6 @@
 use Rattle.std.proofs.Common.{[], ◌∷◌}
 use Rattle.hex.specs.Hex.{encode_lower}
-use Rattle.reply_text.proofs.Printing.{Puts-failed, Puts-then, PutsAll-then, PutsPart-more, PutsPart-then}
+use Rattle.text_page.proofs.Printing.{Puts-failed, Puts-then, PutsAll-then, PutsPart-more, PutsPart-then}
 use Rattle.reply_text.proofs.bytes.write_ok_bytes.Goals as goal
 
 pub returns-in_err-put : goal.returns-in_err-put

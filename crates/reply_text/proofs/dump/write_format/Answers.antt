@@ -1,4 +1,4 @@
-use Rattle.reply_text.proofs.Printing.{Puts-failed, Puts-then, PutsAll-then, PutsPart-more, PutsPart-then}
+use Rattle.text_page.proofs.Printing.{Puts-failed, Puts-then, PutsAll-then, PutsPart-more, PutsPart-then}
 use Rattle.reply_text.proofs.dump.write_format.Goals as goal
 
 pub returns-in_err-write_number_line : goal.returns-in_err-write_number_line

@@ -1,4 +1,4 @@
-use Rattle.reply_text.proofs.Printing.{Prints-given}
+use Rattle.text_page.proofs.Printing.{Prints-given}
 use Rattle.reply_text.proofs.reply.write_by.Goals as goal
 
 pub returns : goal.returns

@@ -1,7 +1,7 @@
 use Rattle.std.specs.Fmt.{decimal}
 use Rattle.eli_base.specs.Refusals.{number_of}
 use Rattle.reply_text.specs.Text.{field, refusal_name}
-use Rattle.reply_text.proofs.Printing.{Puts-failed, Puts-then, PutsAll-then, PutsPart-more, PutsPart-then}
+use Rattle.text_page.proofs.Printing.{Puts-failed, Puts-then, PutsAll-then, PutsPart-more, PutsPart-then}
 use Rattle.reply_text.proofs.reply.write_head.Goals as goal
 
 pub returns-in_err-put : goal.returns-in_err-put

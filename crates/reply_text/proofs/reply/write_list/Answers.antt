@@ -1,4 +1,4 @@
-use Rattle.reply_text.proofs.Printing.{Puts-failed, Puts-then, PutsPart-more}
+use Rattle.text_page.proofs.Printing.{Puts-failed, Puts-then, PutsPart-more}
 use Rattle.reply_text.proofs.reply.write_list.Goals as goal
 
 pub returns-in_err-write_rows : goal.returns-in_err-write_rows

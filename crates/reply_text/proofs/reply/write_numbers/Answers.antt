@@ -1,7 +1,7 @@
 use Rattle.std.proofs.Common.{◌+◌}
 use Rattle.std.specs.Fmt.{decimal}
 use Rattle.reply_text.specs.Text.{decimal_fields, field}
-use Rattle.reply_text.proofs.Printing.{Puts-failed, PutsAll-nothing, PutsAll-then, PutsPart-more, PutsPart-then, concat-more, concat-split}
+use Rattle.text_page.proofs.Printing.{Puts-failed, PutsAll-nothing, PutsAll-then, PutsPart-more, PutsPart-then, concat-more, concat-split}
 use Rattle.reply_text.proofs.reply.write_numbers.Goals as goal
 
 pub loop-number-init : goal.loop-number-init

@@ -1,5 +1,5 @@
 use Rattle.std.proofs.Common.{take}
-use Rattle.reply_text.specs.Output.{PutsAll}
+use Rattle.text_page.specs.Output.{PutsAll}
 use Rattle.reply_text.specs.Text.{decimal_fields}
 use Rattle.reply_text.proofs.reply.write_numbers.Given as goal
 

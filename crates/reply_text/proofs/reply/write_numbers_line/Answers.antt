@@ -1,6 +1,6 @@
 use Rattle.std.proofs.Common.{[], ◌∷◌}
 use Rattle.reply_text.specs.Text.{decimal_fields}
-use Rattle.reply_text.proofs.Printing.{Puts-failed, Puts-then, PutsAll-then, PutsPart-more, PutsPart-then}
+use Rattle.text_page.proofs.Printing.{Puts-failed, Puts-then, PutsAll-then, PutsPart-more, PutsPart-then}
 use Rattle.reply_text.proofs.reply.write_numbers_line.Goals as goal
 
 pub returns-in_err-put : goal.returns-in_err-put

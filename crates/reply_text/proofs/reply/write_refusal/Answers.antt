@@ -1,4 +1,4 @@
-use Rattle.reply_text.proofs.Printing.{Puts-failed, Puts-then, PutsAll-then, PutsPart-more, PutsPart-then}
+use Rattle.text_page.proofs.Printing.{Puts-failed, Puts-then, PutsAll-then, PutsPart-more, PutsPart-then}
 use Rattle.reply_text.proofs.reply.write_refusal.Goals as goal
 
 pub returns-in_err-write_head : goal.returns-in_err-write_head

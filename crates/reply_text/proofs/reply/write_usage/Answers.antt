@@ -1,5 +1,5 @@
 use Rattle.reply_text.specs.Text.{field, reason_name}
-use Rattle.reply_text.proofs.Printing.{Puts-failed, Puts-then, PutsPart-more}
+use Rattle.text_page.proofs.Printing.{Puts-failed, Puts-then, PutsPart-more}
 use Rattle.reply_text.proofs.reply.write_usage.Goals as goal
 
 pub returns-in_err-write_numbers : goal.returns-in_err-write_numbers

@@ -1,6 +1,6 @@
 use Rattle.std.proofs.Common.{◌+◌}
 use Rattle.reply_text.specs.Text.{row_lines, row_text}
-use Rattle.reply_text.proofs.Printing.{Puts-failed, PutsAll-nothing, PutsAll-then, PutsPart-more, PutsPart-then, concat-more, concat-split}
+use Rattle.text_page.proofs.Printing.{Puts-failed, PutsAll-nothing, PutsAll-then, PutsPart-more, PutsPart-then, concat-more, concat-split}
 use Rattle.reply_text.proofs.rows.write_rows.Goals as goal
 
 pub loop-row-init : goal.loop-row-init

@@ -1,5 +1,5 @@
 use Rattle.reply_text.specs.Text.{sizes_of}
-use Rattle.reply_text.proofs.Printing.{Puts-failed, Puts-then, PutsPart-more}
+use Rattle.text_page.proofs.Printing.{Puts-failed, Puts-then, PutsPart-more}
 use Rattle.reply_text.proofs.rows.write_sizes.Goals as goal
 
 pub returns-in_err-put : goal.returns-in_err-put

@@ -1,6 +1,6 @@
 use Rattle.std.proofs.Common.{◌+◌, arith}
 use Rattle.reply_text.proofs.Offsets.{all_lines, lines_behind, next_line, no_lines}
-use Rattle.reply_text.proofs.Printing.{Puts-failed, PutsAll-nothing, PutsAll-then, PutsPart-more, PutsPart-then}
+use Rattle.text_page.proofs.Printing.{Puts-failed, PutsAll-nothing, PutsAll-then, PutsPart-more, PutsPart-then}
 use Rattle.reply_text.proofs.verified.write_offsets.Goals as goal
 
 pub loop-i-init : goal.loop-i-init

@@ -1,5 +1,5 @@
 use Rattle.std.proofs.Common.{take}
-use Rattle.reply_text.specs.Output.{PutsAll}
+use Rattle.text_page.specs.Output.{PutsAll}
 use Rattle.reply_text.specs.Text.{bad_lines, numbers_in}
 use Rattle.reply_text.proofs.verified.write_offsets.Given as goal
 

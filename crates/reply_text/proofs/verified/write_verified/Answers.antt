@@ -1,6 +1,6 @@
 use Rattle.std.proofs.Common.{[], ◌∷◌, codes}
 use Rattle.reply_text.specs.Text.{numbers_line}
-use Rattle.reply_text.proofs.Printing.{Puts-failed, Puts-then, PutsPart-more}
+use Rattle.text_page.proofs.Printing.{Puts-failed, Puts-then, PutsPart-more}
 use Rattle.reply_text.proofs.verified.write_verified.Goals as goal
 
 pub returns-in_err-write_offsets : goal.returns-in_err-write_offsets

@@ -1,4 +1,5 @@
-use Rattle.std.proofs.Common.{ℕ, sym, subst}
+use Rattle.std.proofs.Common.{ℕ, sym, subst, arith}
+use Rattle.std.proofs.lemmas.Grind.{common_steps}
 use Rattle.block_traits.specs.Disk.{FailsIn, Logs}
 use Rattle.eli_metadata.specs.Place.{replace_events}
 use Rattle.backup_restore.specs.Restoring.{GivesMetadata, restored}
@@ -38,3 +39,6 @@ returns-in-Err g c =
       fails = fails;
       unasked = c.replace_metadata.ensures.unasked;
     }
+
+pub returns-in_err-meta : goal.returns-in_err-meta
+returns-in_err-meta g c = grind (arith, common_steps)

@@ -1,4 +1,5 @@
 use Rattle.std.proofs.Common.{◌≡◌, ℕ, ◌+◌, ◌-◌, ◌<◌, ◌≤◌, arith}
+use Rattle.std.proofs.lemmas.Grind.{common_steps}
 use Rattle.byte_ranges.proofs.ranges.has_range.Goals as goal
 
 too_many : (offset count size there n : ℕ) → size ≡ there → n ≡ count → size < n → there < offset + count
@@ -20,3 +21,12 @@ returns-then-range-size-clause-past g c =
 pub returns-clause-there : goal.returns-clause-there
 returns-clause-there g c =
     λ _. inside c.args.range.now.offset c.args.range.now.count c.size_of_data-size.result _ c.from-count.result c.size_of_data-size.ensures c.from-count.ensures c.if-count-size.false c.if-range-size.false
+
+pub returns-then-count-size-clause-there : goal.returns-then-count-size-clause-there
+returns-then-count-size-clause-there g c = grind (arith, common_steps) steps 400000
+
+pub returns-then-range-size-clause-there : goal.returns-then-range-size-clause-there
+returns-then-range-size-clause-there g c = grind (arith, common_steps) steps 400000
+
+pub returns-clause-past : goal.returns-clause-past
+returns-clause-past g c = grind (arith, common_steps) steps 400000

@@ -1,5 +1,6 @@
 -- One more write was done below, or refused and put back.
 use Rattle.std.proofs.Common.{◌<◌, ℕ, List, ◌∙◌, arith, subst, sym}
+use Rattle.std.proofs.lemmas.Grind.{common_steps}
 use Rattle.std.proofs.lemmas.List.Elements.{All-tail}
 use Rattle.disk_layers.specs.declared.write_behind.Waiting.{Waiting}
 use Rattle.disk_layers.specs.Waiting.{FitBelow}
@@ -26,3 +27,42 @@ loop-first-preserved g c =
       capacity = c.in-Some.ensures.capacity ∙ kept.capacity;
       unasked = c.in_default-write.ensures.unasked ∙ kept.unasked;
     }
+
+pub returns-in-Err-clause-ok : goal.returns-in-Err-clause-ok
+returns-in-Err-clause-ok g c = grind (arith, common_steps) steps 400000
+
+pub returns-in-Err-clause-none : goal.returns-in-Err-clause-none
+returns-in-Err-clause-none g c = grind (arith, common_steps) steps 400000
+
+pub returns-in-Err-clause-fit : goal.returns-in-Err-clause-fit
+returns-in-Err-clause-fit g c = grind (arith, common_steps)
+
+pub returns-in-Err-clause-fewer : goal.returns-in-Err-clause-fewer
+returns-in-Err-clause-fewer g c = grind (arith, common_steps) steps 400000
+
+pub returns-in-Err-clause-capacity : goal.returns-in-Err-clause-capacity
+returns-in-Err-clause-capacity g c = grind (arith, common_steps) steps 400000
+
+pub returns-in-Err-clause-unasked : goal.returns-in-Err-clause-unasked
+returns-in-Err-clause-unasked g c = grind (arith, common_steps) steps 400000
+
+pub returns-clause-ok : goal.returns-clause-ok
+returns-clause-ok g c = grind (arith, common_steps) steps 400000
+
+pub returns-clause-none : goal.returns-clause-none
+returns-clause-none g c = grind (arith, common_steps) steps 400000
+
+pub returns-clause-err : goal.returns-clause-err
+returns-clause-err g c = grind (arith, common_steps) steps 400000
+
+pub returns-clause-fit : goal.returns-clause-fit
+returns-clause-fit g c = grind (arith, common_steps) steps 400000
+
+pub returns-clause-fewer : goal.returns-clause-fewer
+returns-clause-fewer g c = grind (arith, common_steps) steps 400000
+
+pub returns-clause-capacity : goal.returns-clause-capacity
+returns-clause-capacity g c = grind (arith, common_steps) steps 400000
+
+pub returns-clause-unasked : goal.returns-clause-unasked
+returns-clause-unasked g c = grind (arith, common_steps) steps 400000

@@ -1,4 +1,5 @@
-use Rattle.std.proofs.Common.{◌≡◌, ◌∙◌, ℕ, List, [], get_or, map, drop, rules, subst, sym, take, ◌+◌}
+use Rattle.std.proofs.Common.{◌≡◌, ◌∙◌, ℕ, List, [], get_or, map, drop, rules, subst, sym, take, ◌+◌, arith}
+use Rattle.std.proofs.lemmas.Grind.{common_steps}
 use Rattle.std.specs.Prelude.{string_bytes}
 use Rattle.std.proofs.lemmas.List.{map_more}
 use Rattle.std.proofs.lemmas.List.Elements.{All-push}
@@ -47,3 +48,33 @@ returns-in_err-push-clause-asked_part g c =
     (map string_bytes (take c.loop-name.name-index c.args.names.now)) (string_bytes c.name-item.result) (map string_bytes (drop (c.loop-name.name-index + 1) c.args.names.now)) c.loop-name.disks.items
     (opening c.args.opener.now []) middle c.open_image.new.opener c.loop-name.invariant.opens (subst P c.as_str.ensures.value part)) in
     search (rules, asked)
+
+pub returns-in_err-open_image-clause-opens : goal.returns-in_err-open_image-clause-opens
+returns-in_err-open_image-clause-opens g c = grind (arith, common_steps)
+
+pub returns-in_err-open_image-clause-tells : goal.returns-in_err-open_image-clause-tells
+returns-in_err-open_image-clause-tells g c = grind (arith, common_steps)
+
+pub returns-in_err-open_image-clause-told : goal.returns-in_err-open_image-clause-told
+returns-in_err-open_image-clause-told g c = grind (arith, common_steps) steps 400000
+
+pub returns-in_err-push-clause-opens : goal.returns-in_err-push-clause-opens
+returns-in_err-push-clause-opens g c = grind (arith, common_steps)
+
+pub returns-in_err-push-clause-tells : goal.returns-in_err-push-clause-tells
+returns-in_err-push-clause-tells g c = grind (arith, common_steps)
+
+pub returns-in_err-push-clause-told : goal.returns-in_err-push-clause-told
+returns-in_err-push-clause-told g c = grind (arith, common_steps)
+
+pub returns-clause-opens : goal.returns-clause-opens
+returns-clause-opens g c = grind (arith, common_steps)
+
+pub returns-clause-tells : goal.returns-clause-tells
+returns-clause-tells g c = grind (arith, common_steps) steps 400000
+
+pub returns-clause-told : goal.returns-clause-told
+returns-clause-told g c = grind (arith, common_steps) steps 400000
+
+pub returns-clause-asked_part : goal.returns-clause-asked_part
+returns-clause-asked_part g c = grind (arith, common_steps) steps 400000

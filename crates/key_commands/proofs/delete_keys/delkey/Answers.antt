@@ -1,4 +1,5 @@
-use Rattle.std.proofs.Common.{◌≡◌, List, ℕ, length, rules, subst}
+use Rattle.std.proofs.Common.{◌≡◌, List, ℕ, length, rules, subst, arith}
+use Rattle.std.proofs.lemmas.Grind.{common_steps}
 use Rattle.block_traits.specs.Disk.{FailsIn, Logs, last_sector}
 use Rattle.block_traits.specs.Overwriting.{overwrite_events}
 use Rattle.key_commands.specs.DeleteKeys.{Deletion}
@@ -37,3 +38,21 @@ returns-in-Err-clause-deletes g c =
       fails = fails;
       unasked = c.overwrite_last.ensures.unasked;
     }
+
+pub returns-in-Some-clause-deletes : goal.returns-in-Some-clause-deletes
+returns-in-Some-clause-deletes g c = grind (arith, common_steps)
+
+pub returns-in-Some-clause-rest : goal.returns-in-Some-clause-rest
+returns-in-Some-clause-rest g c = grind (arith, common_steps) steps 400000
+
+pub returns-then-is_err-clause-deletes : goal.returns-then-is_err-clause-deletes
+returns-then-is_err-clause-deletes g c = grind (arith, common_steps) steps 400000
+
+pub returns-then-is_err-clause-rest : goal.returns-then-is_err-clause-rest
+returns-then-is_err-clause-rest g c = grind (arith, common_steps) steps 400000
+
+pub returns-in-Ok-clause-rest : goal.returns-in-Ok-clause-rest
+returns-in-Ok-clause-rest g c = grind (arith, common_steps) steps 400000
+
+pub returns-in-Err-clause-rest : goal.returns-in-Err-clause-rest
+returns-in-Err-clause-rest g c = grind (arith, common_steps) steps 400000

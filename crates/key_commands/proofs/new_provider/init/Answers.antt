@@ -1,4 +1,5 @@
-use Rattle.std.proofs.Common.{◌≡◌, ℕ, Some, refl, subst, sym, rules, to_z, of_z}
+use Rattle.std.proofs.Common.{◌≡◌, ℕ, Some, refl, subst, sym, rules, to_z, of_z, arith}
+use Rattle.std.proofs.lemmas.Grind.{common_steps}
 use Rattle.std.specs.Prelude.{FitsSigned}
 use Rattle.std.specs.Int.{w32}
 use Rattle.std.proofs.lemmas.Int.{to_z-of_z}
@@ -43,3 +44,6 @@ returns-in-Err g c =
     let made = makes c.args.options.now c.args.parts.now c.sectors-sectors.result c.in-Ok.random c.in-Ok-derive.key m _ _
     c.in_ok-check.ensures.ok c.in-Ok.ensures.ok derived c.metadata_of-meta.ensures.fields c.metadata_of-meta.ensures.whole in
     record { m = m; makes = subst P c.sectors-sectors.ensures made; fails = c.in-Err.ensures.err; unasked = c.replace_metadata.ensures.unasked }
+
+pub returns-in_default : goal.returns-in_default
+returns-in_default g c = grind (arith, common_steps) steps 400000

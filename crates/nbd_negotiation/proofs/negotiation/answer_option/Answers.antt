@@ -1,4 +1,5 @@
-use Rattle.std.proofs.Common.{◌∙◌, Err, ap, sym}
+use Rattle.std.proofs.Common.{◌∙◌, Err, ap, sym, arith}
+use Rattle.std.proofs.lemmas.Grind.{common_steps}
 use Rattle.std.proofs.lemmas.Result.{err_from_is_err_and}
 use Rattle.nbd_negotiation.specs.Options.{ClientOption}
 use Rattle.nbd_negotiation.proofs.Negotiating.{answer_cut, answer_given, many_data, no_data, no_head, one_answered}
@@ -36,3 +37,9 @@ returns g c =
     one_answered c.fill.auto.into (sym c.option_head_in.ensures ∙ c.in-Some.is) taken (many_data c.args.client.now c.in-Some.option c.args.room.now c.fill-2.new.into taken c.requires c.fill-2.auto.into) c.in_ok-fill.ensures c.in_ok-fill-2.ensures
     (answer_given c.args.export.now c.args.client.now o c.option_kind-kind.result c.outcome_of.result (g.K.Sink.state c.args.output.now) (g.K.Sink.state c.give_answer.new.output)
     c.option_kind-kind.ensures c.outcome_of.ensures c.in_ok-give_answer.ensures)
+
+pub returns-in_default : goal.returns-in_default
+returns-in_default g c = grind (arith, common_steps)
+
+pub returns-then-not-is_taken : goal.returns-then-not-is_taken
+returns-then-not-is_taken g c = grind (arith, common_steps)

@@ -1,4 +1,5 @@
-use Rattle.std.proofs.Common.{◌≤◌, ℕ, sym, subst}
+use Rattle.std.proofs.Common.{◌≤◌, ℕ, sym, subst, arith}
+use Rattle.std.proofs.lemmas.Grind.{common_steps}
 use Rattle.nbd_negotiation.proofs.Negotiating.{next_answered, options_end, wants_end, wants_service}
 use Rattle.nbd_negotiation.proofs.negotiation.answer_options.Goals as goal
 
@@ -16,3 +17,6 @@ returns-in-Ok-Ending g c = wants_end c.many.invariant.answered c.in-Ok-Ending.fi
 
 pub returns-in-Err : goal.returns-in-Err
 returns-in-Err g c = options_end c.in-Err.end c.many.invariant.answered c.in-Err.ensures
+
+pub returns : goal.returns
+returns g c = grind (arith, common_steps)

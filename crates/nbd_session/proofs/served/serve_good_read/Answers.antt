@@ -1,4 +1,5 @@
 use Rattle.std.proofs.Common.{◌≡◌, ℕ, ◌+◌, ◌-◌, ◌≤◌, ◌++◌, List, [], length, take, drop, subst, arith, ◌∙◌}
+use Rattle.std.proofs.lemmas.Grind.{common_steps}
 use Rattle.nbd_words.specs.Transmission.{reply_head}
 use Rattle.nbd_words.specs.declared.transmission.ReplyError.TheVariants.{Done, Failed}
 use Rattle.nbd_negotiation.specs.Streams.{GivesBytes}
@@ -34,3 +35,9 @@ returns-clause-answers g c =
       gives = subst (λ (l : List ℕ). GivesBytes (reply_head Done q.cookie ++ l) (g.K.Sink.state c.args.output.now) c.give_bytes.result (g.K.Sink.state c.give_bytes.new.output))
           (read_bytes cover.skip q.length (16 + cover.whole - 16) room into large inside) c.give_bytes.ensures.gives;
     }
+
+pub returns-then-not-read_range-clause-kept : goal.returns-then-not-read_range-clause-kept
+returns-then-not-read_range-clause-kept g c = grind (arith, common_steps) steps 400000
+
+pub returns-clause-kept : goal.returns-clause-kept
+returns-clause-kept g c = grind (arith, common_steps) steps 400000

@@ -1,4 +1,5 @@
 use Rattle.std.proofs.Common.{◌≡◌, ◌∙◌, inl, ℕ, ◌+◌, ◌-◌, ◌%◌, ◌<◌, length, take, drop, arith}
+use Rattle.std.proofs.lemmas.Grind.{common_steps}
 use Rattle.std.proofs.lemmas.Nat.{mod_below}
 use Rattle.nbd_session.specs.Requests.{side_of}
 use Rattle.nbd_session.proofs.Serving.{many_of, payload_there, written_there}
@@ -29,3 +30,12 @@ returns-clause-serves g c =
       gives = c.answer.ensures.gives;
       noted = c.is_error.ensures;
     })
+
+pub returns-in-Err-clause-serves : goal.returns-in-Err-clause-serves
+returns-in-Err-clause-serves g c = grind (arith, common_steps) steps 400000
+
+pub returns-in-Err-clause-kept : goal.returns-in-Err-clause-kept
+returns-in-Err-clause-kept g c = grind (arith, common_steps) steps 400000
+
+pub returns-clause-kept : goal.returns-clause-kept
+returns-clause-kept g c = grind (arith, common_steps) steps 400000

@@ -1,4 +1,5 @@
-use Rattle.std.proofs.Common.{◌∙◌}
+use Rattle.std.proofs.Common.{◌∙◌, arith}
+use Rattle.std.proofs.lemmas.Grind.{common_steps}
 use Rattle.nbd_session.specs.Requests.{side_of}
 use Rattle.nbd_session.proofs.Running.{ends_by, full, kept_on, next_by}
 use Rattle.nbd_session.proofs.session.serve_requests.Goals as goal
@@ -33,3 +34,9 @@ returns-clause-serves g c =
     let sink = g.K.Sink.state in
     full (side_of c.args.provider.now) c.many.many (disk c.args.provider.now.disk) (disk c.many.provider.disk) (source c.args.input.now) (source c.many.input) (sink c.args.output.now) (sink c.many.output) c.many.denied
     c.many-test.false c.many.invariant.served
+
+pub returns-in-Err-clause-kept : goal.returns-in-Err-clause-kept
+returns-in-Err-clause-kept g c = grind (arith, common_steps) steps 400000
+
+pub returns-clause-kept : goal.returns-clause-kept
+returns-clause-kept g c = grind (arith, common_steps) steps 400000

@@ -1,4 +1,5 @@
 use Rattle.std.proofs.Common.{◌≤◌, ◌-◌, ℕ, arith, subst}
+use Rattle.std.proofs.lemmas.Grind.{common_steps}
 use Rattle.block_traits.specs.Disk.{FailsIn, Logs}
 use Rattle.block_traits.specs.Overwriting.{overwrite_events}
 use Rattle.resize_kill.specs.Trash.{trash_sectors}
@@ -19,3 +20,9 @@ returns-in-Err g c =
     let fails = subst P c.sectors-sectors.ensures c.in-Err.ensures.err in
     let enough : 2 ≤ disk.size = omega (arith, c.sectors-sectors.ensures) in
     record { enough = enough; random = c.in-Ok.random; takes = c.in-Ok.ensures.ok; fails = fails; unasked = c.destroy.ensures.unasked }
+
+pub returns-then-sectors-lt2 : goal.returns-then-sectors-lt2
+returns-then-sectors-lt2 g c = grind (arith, common_steps) steps 400000
+
+pub returns-in_default : goal.returns-in_default
+returns-in_default g c = grind (arith, common_steps) steps 400000

@@ -1,4 +1,5 @@
-use Rattle.std.proofs.Common.{rules}
+use Rattle.std.proofs.Common.{rules, arith}
+use Rattle.std.proofs.lemmas.Grind.{common_steps}
 use Rattle.std.proofs.lemmas.Result.{on_err_weaker, on_ok_weaker}
 use Rattle.block_traits.proofs.Logs.{FailsIn-more, FailsIn-then, Logs-then}
 use Rattle.block_traits.specs.Overwriting.{overwrite_events}
@@ -16,3 +17,12 @@ returns-clause-ok g c = on_ok_weaker c.destroy.result (Logs-then _ _ c.in_ok-rep
 
 pub returns-clause-err : goal.returns-clause-err
 returns-clause-err g c = on_err_weaker c.destroy.result (FailsIn-then _ _ c.in_ok-replace_metadata.ensures.ok) c.destroy.ensures.err
+
+pub returns-in_err-replace_metadata-clause-ok : goal.returns-in_err-replace_metadata-clause-ok
+returns-in_err-replace_metadata-clause-ok g c = grind (arith, common_steps) steps 400000
+
+pub returns-in_err-replace_metadata-clause-unasked : goal.returns-in_err-replace_metadata-clause-unasked
+returns-in_err-replace_metadata-clause-unasked g c = grind (arith, common_steps) steps 400000
+
+pub returns-clause-unasked : goal.returns-clause-unasked
+returns-clause-unasked g c = grind (arith, common_steps) steps 400000

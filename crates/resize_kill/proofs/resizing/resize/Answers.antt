@@ -1,4 +1,5 @@
-use Rattle.std.proofs.Common.{◌≡◌, ℕ, None, inr, subst, rules, to_z, of_z}
+use Rattle.std.proofs.Common.{◌≡◌, ℕ, None, inr, subst, rules, to_z, of_z, arith}
+use Rattle.std.proofs.lemmas.Grind.{common_steps}
 use Rattle.std.proofs.lemmas.Int.{to_z-of_z}
 use Rattle.std.specs.Int.{w32}
 use Rattle.std.specs.Prelude.{FitsSigned}
@@ -38,3 +39,12 @@ returns-in-Err g c =
     let sizes = subst (λ (n : ℕ). size_refusal n oldsize ≡ None) same c.in_ok-check_sizes.ensures.ok in
     let fails = subst (λ (n : ℕ). FailsIn (move_events middle (old_place oldsize) (grown old n) random) middle after) same (rw signed at c.in-Err.ensures.err) in
     inr (moves_part oldsize disk middle after _ _ old random sizes c.in_ok-old.ensures.finds c.in-Ok.ensures.ok c.fits_types.ensures fails c.move_metadata.ensures.unasked)
+
+pub returns-in_err-check_sizes : goal.returns-in_err-check_sizes
+returns-in_err-check_sizes g c = grind (arith, common_steps) steps 400000
+
+pub returns-in_err-old : goal.returns-in_err-old
+returns-in_err-old g c = grind (arith, common_steps)
+
+pub returns-in_default : goal.returns-in_default
+returns-in_default g c = grind (arith, common_steps) steps 400000

@@ -1,4 +1,5 @@
-use Rattle.std.proofs.Common.{sym, ◌∙◌}
+use Rattle.std.proofs.Common.{sym, ◌∙◌, arith}
+use Rattle.std.proofs.lemmas.Grind.{common_steps}
 use Rattle.shelf.specs.Trying.{tried_in}
 use Rattle.shelf.proofs.Openings.{no_fit, not_taken, taken_over}
 use Rattle.shelf.proofs.attaching.take_over.Goals as goal
@@ -15,3 +16,6 @@ returns-in-Err-attach g c = λ cabinet entropy.
 
 pub returns-in-Err : goal.returns-in-Err
 returns-in-Err g c = λ cabinet entropy. no_fit (tried_in c.args.slot c.args.readonly c.args.trial.now) c.in-Err.refusal _ (sym c.in-Err.is ∙ c.try_key.ensures c.args.readonly)
+
+pub returns-in-Ok-try_key : goal.returns-in-Ok-try_key
+returns-in-Ok-try_key g c = grind (arith, common_steps) steps 400000

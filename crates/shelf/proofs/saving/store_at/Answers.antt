@@ -1,4 +1,5 @@
-use Rattle.std.proofs.Common.{refl}
+use Rattle.std.proofs.Common.{refl, arith}
+use Rattle.std.proofs.lemmas.Grind.{common_steps}
 use Rattle.shelf.proofs.Storing.{store_failed}
 use Rattle.shelf.proofs.saving.store_at.Goals as goal
 
@@ -13,3 +14,6 @@ returns-in-Err g c =
       holding = refl;
       entropy = refl;
     })
+
+pub returns-in-Ok : goal.returns-in-Ok
+returns-in-Ok g c = grind (arith, common_steps) steps 400000

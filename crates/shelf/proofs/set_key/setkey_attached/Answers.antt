@@ -1,4 +1,5 @@
-use Rattle.std.proofs.Common.{◌≡◌, ℕ, Err, Ok, refl, subst, sym}
+use Rattle.std.proofs.Common.{◌≡◌, ℕ, Err, Ok, refl, subst, sym, arith}
+use Rattle.std.proofs.lemmas.Grind.{common_steps}
 use Rattle.std.proofs.lemmas.Result.{err_from_is_err_and}
 use Rattle.command_rows.specs.Vocabulary.{settings_of}
 use Rattle.shelf.proofs.Rows.{Then-goes_on, Then-refused, loaded}
@@ -48,3 +49,18 @@ returns-clause-row g c =
     (Then-goes_on _ _ _ _ _ _ _ (c.in_ok-needs_slot.ensures, refl)
     (Then-goes_on _ _ _ _ _ _ _ (loaded _ _ _ _ _ _ _ _ e.answer e.fits e.stops e.keeps e.named e.asked e.unstored)
     (c.store_key.ensures.stores _ _ _))))
+
+pub returns-in_err-meta-clause-rest : goal.returns-in_err-meta-clause-rest
+returns-in_err-meta-clause-rest g c = grind (arith, common_steps) steps 400000
+
+pub returns-in_err-fit-clause-rest : goal.returns-in_err-fit-clause-rest
+returns-in_err-fit-clause-rest g c = grind (arith, common_steps) steps 400000
+
+pub returns-in_err-needs_slot-clause-rest : goal.returns-in_err-needs_slot-clause-rest
+returns-in_err-needs_slot-clause-rest g c = grind (arith, common_steps) steps 400000
+
+pub returns-in_err-parts-clause-rest : goal.returns-in_err-parts-clause-rest
+returns-in_err-parts-clause-rest g c = grind (arith, common_steps)
+
+pub returns-clause-rest : goal.returns-clause-rest
+returns-clause-rest g c = grind (arith, common_steps)

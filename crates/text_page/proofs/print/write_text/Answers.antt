@@ -1,4 +1,5 @@
 use Rattle.std.proofs.Common.{◌-◌, length, drop, arith, length-drop}
+use Rattle.std.proofs.lemmas.Grind.{common_steps}
 use Rattle.std.proofs.Math.Seq.{take-add}
 use Rattle.std.proofs.lemmas.List.{take_all}
 use Rattle.text_page.proofs.Printing.{TookAll-then}
@@ -20,3 +21,12 @@ loop-given-preserved g c =
         idle = busy (omega (arith, c.loop-given-test, length-drop c.loop-given.given text));
       }));
     }
+
+pub returns-in-Ok-eq0 : goal.returns-in-Ok-eq0
+returns-in-Ok-eq0 g c = grind (arith, common_steps) steps 400000
+
+pub returns-in-Err : goal.returns-in-Err
+returns-in-Err g c = grind (arith, common_steps) steps 400000
+
+pub returns : goal.returns
+returns g c = grind (arith, common_steps) steps 400000

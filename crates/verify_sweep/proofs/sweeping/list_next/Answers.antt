@@ -1,4 +1,5 @@
 use Rattle.std.proofs.Common.{◌+◌, ◌/◌, Bool, [], ◌∷◌, length, subst, arith}
+use Rattle.std.proofs.lemmas.Grind.{common_steps}
 use Rattle.sector_runs.specs.Verdicts.{verdict}
 use Rattle.verify_sweep.specs.Sweeping.{Lists, refused_at}
 use Rattle.verify_sweep.proofs.Listing.{Lists-judged, refused_few, unit_small}
@@ -24,3 +25,12 @@ loop-m-preserved g c =
       few = omega (arith, before.few, few, lists.now_is);
       lists = Lists-judged k n m c.args.bad c.loop-m.now c.list-now.result judged c.args.device.now c.args.found.now c.loop-m.found c.list-now.new.found (omega arith) c.judge-judged.ensures c.loop-m-test.true before.lists lists;
     }
+
+pub returns-clause-some : goal.returns-clause-some
+returns-clause-some g c = grind (arith, common_steps) steps 400000
+
+pub returns-clause-within : goal.returns-clause-within
+returns-clause-within g c = grind (arith, common_steps) steps 400000
+
+pub returns-clause-lists : goal.returns-clause-lists
+returns-clause-lists g c = grind (arith, common_steps)

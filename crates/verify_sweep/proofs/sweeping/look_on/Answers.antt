@@ -1,4 +1,5 @@
 use Rattle.std.proofs.Common.{◌≡◌, ◌*◌, ◌/◌, ℕ, length, refl, sym, subst, ap, ◌∙◌, arith}
+use Rattle.std.proofs.lemmas.Grind.{common_steps}
 use Rattle.std.proofs.lemmas.List.{length-take-le}
 use Rattle.block_traits.specs.Causes.{Counted}
 use Rattle.block_traits.specs.Disk.{DiskState}
@@ -40,3 +41,33 @@ returns-clause-ok g c =
     let lists = subst (λ (k : Keying). Lists (failing_units k n (parts 512 (length unit / 512) unit)) c.args.bad now before after) kept c.list_all-now-2.ensures in
     subst (λ (disk : DiskState). Looks c.args.on.now.keying n 1 c.args.bad now before after disk new) missed
     (Looks-some c.args.on.now.keying n 1 c.args.bad now unit before after (g.D.Disk.state c.look.new.self.disk) new (omega (arith, long)) (gives_one _ n unit long seen.bytes) lists seen.asked seen.ok)
+
+pub returns-then-look-clause-many : goal.returns-then-look-clause-many
+returns-then-look-clause-many g c = grind (arith, common_steps) steps 400000
+
+pub returns-then-look-clause-err : goal.returns-then-look-clause-err
+returns-then-look-clause-err g c = grind (arith, common_steps) steps 400000
+
+pub returns-then-look-clause-kept : goal.returns-then-look-clause-kept
+returns-then-look-clause-kept g c = grind (arith, common_steps) steps 400000
+
+pub returns-in_err-get_unit-clause-many : goal.returns-in_err-get_unit-clause-many
+returns-in_err-get_unit-clause-many g c = grind (arith, common_steps)
+
+pub returns-in_err-get_unit-clause-ok : goal.returns-in_err-get_unit-clause-ok
+returns-in_err-get_unit-clause-ok g c = grind (arith, common_steps)
+
+pub returns-in_err-get_unit-clause-err : goal.returns-in_err-get_unit-clause-err
+returns-in_err-get_unit-clause-err g c = grind (arith, common_steps)
+
+pub returns-in_err-get_unit-clause-kept : goal.returns-in_err-get_unit-clause-kept
+returns-in_err-get_unit-clause-kept g c = grind (arith, common_steps) steps 400000
+
+pub returns-clause-many : goal.returns-clause-many
+returns-clause-many g c = grind (arith, common_steps) steps 400000
+
+pub returns-clause-err : goal.returns-clause-err
+returns-clause-err g c = grind (arith, common_steps) steps 400000
+
+pub returns-clause-kept : goal.returns-clause-kept
+returns-clause-kept g c = grind (arith, common_steps) steps 400000

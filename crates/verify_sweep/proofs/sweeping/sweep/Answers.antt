@@ -1,4 +1,5 @@
 use Rattle.std.proofs.Common.{◌≡◌, ℕ, ◌+◌, ◌-◌, ◌*◌, ◌/◌, ◌<◌, ◌≤◌, min, [], refl, subst, ap, ◌∙◌, arith}
+use Rattle.std.proofs.lemmas.Grind.{common_steps}
 use Rattle.block_traits.proofs.Causes.{Counted-then}
 use Rattle.block_traits.proofs.Logs.{FailsIn-then}
 use Rattle.eli_base.specs.Keying.{Keying}
@@ -81,3 +82,12 @@ looks-preserved g c =
       lists = ListsFailing-next k (c.args.start * c.units-units.result) c.looks.done c.in_ok-many.many c.looks.bad c.in_ok-many.now c.args.found.now c.looks.found c.look_on.new.found (state c.args.on.now.disk)
           (state c.looks.on.disk) (state c.look_on.new.on.disk) c.looks.invariant.lists looks;
     }
+
+pub returns-in_err-many-clause-kept : goal.returns-in_err-many-clause-kept
+returns-in_err-many-clause-kept g c = grind (arith, common_steps) steps 400000
+
+pub returns-clause-answer : goal.returns-clause-answer
+returns-clause-answer g c = grind (arith, common_steps)
+
+pub returns-clause-kept : goal.returns-clause-kept
+returns-clause-kept g c = grind (arith, common_steps) steps 400000

@@ -1,4 +1,5 @@
 use Rattle.std.proofs.Common.{rules, ◌≡◌, None, IfSome, refl, sym, ap, ◌∙◌, subst, arith}
+use Rattle.std.proofs.lemmas.Grind.{common_steps}
 use Rattle.bio_queue.specs.Answers.{CanBeReaped}
 use Rattle.bio_queue.specs.Kept.{request_place}
 use Rattle.bio_queue.specs.Requests.{Request, left_of, request_with}
@@ -59,3 +60,15 @@ returns-clause-answer g c =
     let one = one_request _ c.index.result.now r seen.found at.found in
     let none : left_of c.index.result.now ≡ 0 = omega (arith, c.left-left.ensures.left, c.if-left-gt0.false) in
     (record { request = r; found = at.found; none = sym (ap (λ (q : Request). left_of q) one) ∙ none; queue = c.remove-request.ensures.items ∙ at.take_out; gives = c.in-Err.ensures.gives }, search rules)
+
+pub returns-in_default-clause-stays : goal.returns-in_default-clause-stays
+returns-in_default-clause-stays g c = grind (arith, common_steps) steps 400000
+
+pub returns-then-left-gt0-clause-stays : goal.returns-then-left-gt0-clause-stays
+returns-then-left-gt0-clause-stays g c = grind (arith, common_steps) steps 400000
+
+pub returns-in-Ok-clause-stays : goal.returns-in-Ok-clause-stays
+returns-in-Ok-clause-stays g c = grind (arith, common_steps) steps 400000
+
+pub returns-clause-stays : goal.returns-clause-stays
+returns-clause-stays g c = grind (arith, common_steps) steps 400000

@@ -1,4 +1,5 @@
 use Rattle.std.proofs.Common.{◌≡◌, ◌<◌, List, length, refl, sym, ap, ◌∙◌, subst, arith}
+use Rattle.std.proofs.lemmas.Grind.{common_steps}
 use Rattle.bio_queue.specs.Requests.{Request, put_in}
 use Rattle.bio_queue.proofs.Served.{puts_in}
 use Rattle.bio_queue.proofs.Tags.{few_from}
@@ -32,3 +33,21 @@ returns-clause-answer g c =
       free = put.free;
       queue = put.queue_is ∙ ap (λ (q : Request). put_in q c.args.self.now) made;
     }
+
+pub returns-in_err-admit-clause-answer : goal.returns-in_err-admit-clause-answer
+returns-in_err-admit-clause-answer g c = grind (arith, common_steps) steps 400000
+
+pub returns-in_err-admit-clause-stays : goal.returns-in_err-admit-clause-stays
+returns-in_err-admit-clause-stays g c = grind (arith, common_steps) steps 400000
+
+pub returns-then-len-ge-ROOM-clause-stays : goal.returns-then-len-ge-ROOM-clause-stays
+returns-then-len-ge-ROOM-clause-stays g c = grind (arith, common_steps) steps 400000
+
+pub returns-in_default-clause-answer : goal.returns-in_default-clause-answer
+returns-in_default-clause-answer g c = grind (arith, common_steps) steps 400000
+
+pub returns-in_default-clause-stays : goal.returns-in_default-clause-stays
+returns-in_default-clause-stays g c = grind (arith, common_steps) steps 400000
+
+pub returns-clause-stays : goal.returns-clause-stays
+returns-clause-stays g c = grind (arith, common_steps) steps 400000

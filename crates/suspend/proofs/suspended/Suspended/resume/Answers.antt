@@ -1,4 +1,5 @@
-use Rattle.std.proofs.Common.{◌≡◌, Bool, ap, refl, ◌∙◌}
+use Rattle.std.proofs.Common.{◌≡◌, Bool, ap, refl, ◌∙◌, arith}
+use Rattle.std.proofs.lemmas.Grind.{common_steps}
 use Rattle.provider.proofs.Checked.{checked}
 use Rattle.provider.specs.Answers.{Means, Target}
 use Rattle.provider.specs.Attached.{attached_with}
@@ -26,3 +27,6 @@ returns-in-Ok-attach_opened g c =
     resumed_so t by c.args.self c.in-Ok.found.slot c.in-Ok.found.master c.in-Ok-attach_opened.provider is c.in-Ok.ensures.0 c.in-Ok.ensures.1
     (c.in-Ok-attach_opened.ensures.attached ∙ ap (λ (r : Bool). attached_with t.params c.in-Ok.found.master c.in-Ok.found.slot r c.self.inside.disk) readonly
     ∙ ap (λ (d : g.row.D.Denot). attached_with t.params c.in-Ok.found.master c.in-Ok.found.slot by.readonly d) disk)
+
+pub invariant_of-result : goal.invariant_of-result
+invariant_of-result g c = grind (arith, common_steps) steps 400000

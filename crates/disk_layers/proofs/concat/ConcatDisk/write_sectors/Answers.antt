@@ -1,0 +1,15 @@
+use Rattle.std.proofs.Common.{arith}
+use Rattle.std.proofs.lemmas.Grind.{common_steps}
+use Rattle.disk_layers.proofs.concat.ConcatDisk.write_sectors.Goals as goal
+
+pub returns-clause-ok : goal.returns-clause-ok
+returns-clause-ok g c = grind (arith, common_steps) steps 400000
+
+pub returns-clause-err : goal.returns-clause-err
+returns-clause-err g c = grind (arith, common_steps)
+
+pub returns-clause-unasked : goal.returns-clause-unasked
+returns-clause-unasked g c = grind (arith, common_steps) steps 400000
+
+pub returns-clause-answer : goal.returns-clause-answer
+returns-clause-answer g c = grind (arith, common_steps) steps 400000

@@ -1,4 +1,5 @@
 use Rattle.std.proofs.Common.{rules, ◌≡◌, ◌∙◌, ◌+◌, arith, drop, get_or, map, refl, string_bytes}
+use Rattle.std.proofs.lemmas.Grind.{common_steps}
 use Rattle.command_rows.specs.Rows.{DrawerState, Idle}
 use Rattle.geli_core.specs.Images.{idle_drawers}
 use Rattle.geli_core.specs.Vocabulary.{drawers_of}
@@ -45,3 +46,33 @@ returns-in-Err-clause-kept g c =
     let before = drawers_of state c.loop-name.shelf.drawers in
     rw (c.in-Err.ensures.adds.0, c.in-Err.ensures.adds.2) (
     refused_next state before c.loop-name.disks.items c.remove.new.self.items c.remove.result _ (omega (arith, c.loop-name.invariant.1, c.loop-name-test.true)) c.remove.ensures.value c.remove.ensures.items c.loop-name.invariant.3)
+
+pub returns-in_default-clause-drawers : goal.returns-in_default-clause-drawers
+returns-in_default-clause-drawers g c = grind (arith, common_steps) steps 400000
+
+pub returns-in_default-clause-differ : goal.returns-in_default-clause-differ
+returns-in_default-clause-differ g c = grind (arith, common_steps) steps 400000
+
+pub returns-in_default-clause-refused : goal.returns-in_default-clause-refused
+returns-in_default-clause-refused g c = grind (arith, common_steps) steps 400000
+
+pub returns-in_default-clause-kept : goal.returns-in_default-clause-kept
+returns-in_default-clause-kept g c = grind (arith, common_steps) steps 400000
+
+pub returns-in-Err-clause-drawers : goal.returns-in-Err-clause-drawers
+returns-in-Err-clause-drawers g c = grind (arith, common_steps) steps 400000
+
+pub returns-in-Err-clause-differ : goal.returns-in-Err-clause-differ
+returns-in-Err-clause-differ g c = grind (arith, common_steps) steps 400000
+
+pub returns-clause-drawers : goal.returns-clause-drawers
+returns-clause-drawers g c = grind (arith, common_steps)
+
+pub returns-clause-differ : goal.returns-clause-differ
+returns-clause-differ g c = grind (arith, common_steps)
+
+pub returns-clause-refused : goal.returns-clause-refused
+returns-clause-refused g c = grind (arith, common_steps) steps 400000
+
+pub returns-clause-kept : goal.returns-clause-kept
+returns-clause-kept g c = grind (arith, common_steps) steps 400000

@@ -1,4 +1,5 @@
-use Rattle.std.proofs.Common.{◌∙◌, None, ap, refl, rules}
+use Rattle.std.proofs.Common.{◌∙◌, None, ap, refl, rules, arith}
+use Rattle.std.proofs.lemmas.Grind.{common_steps}
 use Rattle.command_rows.specs.Vocabulary.{SinkState}
 use Rattle.geli_core.specs.Vocabulary.{command_in, drawers_of, line_of}
 use Rattle.geli_core.proofs.Commands.{declined, run_as_said, runs_as}
@@ -36,3 +37,21 @@ returns-in-Usage-clause-runs g c = λ words says.
     let lawful = runs_lawfully words _ _ c.print_usage.result (runs_as words None _ _ c.print_usage.result said.0 (run_as_said words (line_of words) None _ _ c.print_usage.result refl said.1 printed))
     c.hold_keyings.ensures c.names_differ.ensures in
     search (rules, lawful)
+
+pub returns-in-Script-clause-same : goal.returns-in-Script-clause-same
+returns-in-Script-clause-same g c = grind (arith, common_steps) steps 400000
+
+pub returns-in-Script-clause-unread : goal.returns-in-Script-clause-unread
+returns-in-Script-clause-unread g c = grind (arith, common_steps) steps 400000
+
+pub returns-in-One-clause-same : goal.returns-in-One-clause-same
+returns-in-One-clause-same g c = grind (arith, common_steps) steps 400000
+
+pub returns-in-One-clause-unread : goal.returns-in-One-clause-unread
+returns-in-One-clause-unread g c = grind (arith, common_steps) steps 400000
+
+pub returns-in-Usage-clause-same : goal.returns-in-Usage-clause-same
+returns-in-Usage-clause-same g c = grind (arith, common_steps) steps 400000
+
+pub returns-in-Usage-clause-unread : goal.returns-in-Usage-clause-unread
+returns-in-Usage-clause-unread g c = grind (arith, common_steps) steps 400000

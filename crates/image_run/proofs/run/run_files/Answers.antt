@@ -1,5 +1,6 @@
 -- What was opened is what the run is over.
-use Rattle.std.proofs.Common.{◌≡◌, ◌∙◌, Option, ap, inl, inr, length, map, refl, rules, string_bytes, sym}
+use Rattle.std.proofs.Common.{◌≡◌, ◌∙◌, Option, ap, inl, inr, length, map, refl, rules, string_bytes, sym, arith}
+use Rattle.std.proofs.lemmas.Grind.{common_steps}
 use Rattle.std.proofs.lemmas.List.{length-map}
 use Rattle.command_words.proofs.Said.{names_said}
 use Rattle.geli_core.proofs.ImageNames.{images_fit}
@@ -123,3 +124,90 @@ returns-clause-told g c =
     let files : c.files-2-1.given.0 ≡ c.run_over.new.outside.files.now = search rules in
     let handed : c.into_opener.result ≡ opened.files.opener = rw (files, left) at c.into_opener.ensures in
     ap g.O.Opener.told handed ∙ told.0
+
+pub returns-in_default-clause-runs : goal.returns-in_default-clause-runs
+returns-in_default-clause-runs g c = grind (arith, common_steps) steps 400000
+
+pub returns-in_default-clause-ends : goal.returns-in_default-clause-ends
+returns-in_default-clause-ends g c = grind (arith, common_steps) steps 400000
+
+pub returns-in_default-clause-read : goal.returns-in_default-clause-read
+returns-in_default-clause-read g c = grind (arith, common_steps) steps 400000
+
+pub returns-in_default-clause-write : goal.returns-in_default-clause-write
+returns-in_default-clause-write g c = grind (arith, common_steps) steps 400000
+
+pub returns-in_default-clause-unread : goal.returns-in_default-clause-unread
+returns-in_default-clause-unread g c = grind (arith, common_steps) steps 400000
+
+pub returns-in_default-clause-nothing : goal.returns-in_default-clause-nothing
+returns-in_default-clause-nothing g c = grind (arith, common_steps) steps 400000
+
+pub returns-in_default-clause-told : goal.returns-in_default-clause-told
+returns-in_default-clause-told g c = grind (arith, common_steps) steps 400000
+
+pub returns-in_default-images-clause-runs : goal.returns-in_default-images-clause-runs
+returns-in_default-images-clause-runs g c = grind (arith, common_steps) steps 400000
+
+pub returns-in_default-images-clause-ends : goal.returns-in_default-images-clause-ends
+returns-in_default-images-clause-ends g c = grind (arith, common_steps) steps 400000
+
+pub returns-in_default-images-clause-read : goal.returns-in_default-images-clause-read
+returns-in_default-images-clause-read g c = grind (arith, common_steps) steps 400000
+
+pub returns-in_default-images-clause-write : goal.returns-in_default-images-clause-write
+returns-in_default-images-clause-write g c = grind (arith, common_steps) steps 400000
+
+pub returns-in_default-images-clause-unread : goal.returns-in_default-images-clause-unread
+returns-in_default-images-clause-unread g c = grind (arith, common_steps) steps 400000
+
+pub returns-in_default-images-clause-nothing : goal.returns-in_default-images-clause-nothing
+returns-in_default-images-clause-nothing g c = grind (arith, common_steps) steps 400000
+
+pub returns-in_default-images-clause-told : goal.returns-in_default-images-clause-told
+returns-in_default-images-clause-told g c = grind (arith, common_steps) steps 400000
+
+pub returns-in_err-disks-clause-runs : goal.returns-in_err-disks-clause-runs
+returns-in_err-disks-clause-runs g c = grind (arith, common_steps)
+
+pub returns-in_err-disks-clause-ends : goal.returns-in_err-disks-clause-ends
+returns-in_err-disks-clause-ends g c = grind (arith, common_steps)
+
+pub returns-in_err-disks-clause-read : goal.returns-in_err-disks-clause-read
+returns-in_err-disks-clause-read g c = grind (arith, common_steps)
+
+pub returns-in_err-disks-clause-write : goal.returns-in_err-disks-clause-write
+returns-in_err-disks-clause-write g c = grind (arith, common_steps)
+
+pub returns-in_err-disks-clause-unread : goal.returns-in_err-disks-clause-unread
+returns-in_err-disks-clause-unread g c = grind (arith, common_steps)
+
+pub returns-in_err-disks-clause-nothing : goal.returns-in_err-disks-clause-nothing
+returns-in_err-disks-clause-nothing g c = grind (arith, common_steps)
+
+pub returns-in_err-disks-clause-told : goal.returns-in_err-disks-clause-told
+returns-in_err-disks-clause-told g c = grind (arith, common_steps)
+
+pub returns-in-Ok-run_over-clause-nothing : goal.returns-in-Ok-run_over-clause-nothing
+returns-in-Ok-run_over-clause-nothing g c = grind (arith, common_steps) steps 400000
+
+pub returns-in-Ok-run_over-clause-told : goal.returns-in-Ok-run_over-clause-told
+returns-in-Ok-run_over-clause-told g c = grind (arith, common_steps) steps 400000
+
+pub returns-in-Ok-run_over-clause-asked : goal.returns-in-Ok-run_over-clause-asked
+returns-in-Ok-run_over-clause-asked g c = grind (arith, common_steps) steps 400000
+
+pub returns-clause-runs : goal.returns-clause-runs
+returns-clause-runs g c = grind (arith, common_steps) steps 400000
+
+pub returns-clause-ends : goal.returns-clause-ends
+returns-clause-ends g c = grind (arith, common_steps) steps 400000
+
+pub returns-clause-read : goal.returns-clause-read
+returns-clause-read g c = grind (arith, common_steps) steps 400000
+
+pub returns-clause-write : goal.returns-clause-write
+returns-clause-write g c = grind (arith, common_steps) steps 400000
+
+pub returns-clause-unread : goal.returns-clause-unread
+returns-clause-unread g c = grind (arith, common_steps) steps 400000

@@ -19,7 +19,7 @@ use Rattle.hmac_kdf.specs.Hmac.{hmac512}
 use Rattle.key_slots.specs.Slots.{IsFirstToOpen, Opens, check_code}
 use Rattle.provider.specs.Answers.{AttachAnswers, ReadAnswers, request}
 use Rattle.provider.specs.Attached.{Attached}
-use Rattle.sector_runs.specs.Reading as provider
+use Rattle.sector_runs.specs.Reading as runs
 use Rattle.provider.specs.declared.faults.AttachFault.{AttachFault}
 use Rattle.provider.specs.declared.faults.AttachFault.TheVariants as attach
 use Rattle.sector_runs.specs.declared.faults.ReadFault.{ReadFault}
@@ -113,7 +113,7 @@ attaches state image m params key readonly s master disk (Err (given, attach.NoM
 -- ---- reading
 
 sectors-image : (k : Keying) (sector count : ℕ) (image : List (List ℕ)) → IsKeying k → sector + count ≤ (512 * length image - 512) / (512 * units k)
-    → provider.sector_readings k (survivor image) sector count ≡ image_sectors k sector count image
+    → runs.sector_readings k (survivor image) sector count ≡ image_sectors k sector count image
 sectors-image k sector zero image is fits = refl
 sectors-image k sector (suc count) image is fits =
     let there = room (units k) sector (length image) (some-units k is) (omega arith) in
@@ -122,7 +122,7 @@ sectors-image k sector (suc count) image is fits =
     λ i. first i ∷ more i
 
 data-image : (k : Keying) (sector count : ℕ) (image : List (List ℕ)) (size : ℕ) → IsKeying k → length image ≡ size → sector + count ≤ (512 * size - 512) / (512 * units k)
-    → provider.data_reading k (survivor image) sector count ≡ image_data k sector count image
+    → runs.data_reading k (survivor image) sector count ≡ image_data k sector count image
 data-image k sector count image size is same fits =
     ap joined (sectors-image k sector count image is (subst (λ (n : ℕ). sector + count ≤ (512 * n - 512) / (512 * units k)) (sym same) fits))
 
@@ -132,9 +132,9 @@ stays image old new has logs = logs.content ∙ logged-none old.content ∙ has
 none_logged : (old new : DiskState) → FailsIn [] old new → Logs [] old new
 none_logged old new f = let none : f.count ≡ 0 = omega (arith, f.within) in subst (λ (n : ℕ). Logs (take n []) old new) none f.logs
 
-reads-from : (told : Option Content) (k : Keying) (sector count : ℕ) (image : List (List ℕ)) (answer : Result (List ℕ) ℕ) → told ≡ Some (survivor image) → provider.ReadsFrom told k sector count answer
-    → provider.data_reading k (survivor image) sector count ≡ answer
-reads-from told k sector count image answer is h = subst (λ (c : Option Content). provider.ReadsFrom c k sector count answer) is h
+reads-from : (told : Option Content) (k : Keying) (sector count : ℕ) (image : List (List ℕ)) (answer : Result (List ℕ) ℕ) → told ≡ Some (survivor image) → runs.ReadsFrom told k sector count answer
+    → runs.data_reading k (survivor image) sector count ≡ answer
+reads-from told k sector count image answer is h = subst (λ (c : Option Content). runs.ReadsFrom c k sector count answer) is h
 
 pub reads : {D : Type 0} (state : D → DiskState) (image : List (List ℕ)) (sector : ℕ) (into bytes : List ℕ) (old new : Attached D) (answer : Result (Unit {0}) ReadFault)
     → HasImage image (state old.disk) → IsKeying old.keying → ReadAnswers state (request state old sector into) bytes old new answer

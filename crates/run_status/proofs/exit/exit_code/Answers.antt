@@ -1,6 +1,6 @@
 use Rattle.std.proofs.Common.{arith}
 use Rattle.std.proofs.lemmas.Grind.{common_steps}
-use Rattle.image_run.proofs.exit.exit_code.Goals as goal
+use Rattle.run_status.proofs.exit.exit_code.Goals as goal
 
 pub returns : goal.returns
 returns c = grind (arith, common_steps) steps 400000

@@ -1,4 +1,5 @@
 use Rattle.std.proofs.Common.{◌≡◌, ◌+◌, ◌*◌, ℕ, take, drop, sym, ap, ◌∙◌, arith}
+use Rattle.std.proofs.lemmas.Grind.{common_steps}
 use Rattle.std.proofs.lemmas.List.{length-drop, take_all}
 use Rattle.sealing.specs.Sectors.{units}
 use Rattle.sector_runs.proofs.FourSectors.{are_apart, piece_of_four, sealed_four}
@@ -63,3 +64,6 @@ returns-clause-sealed c =
     (sealed_all k (sector + 1) c.loop-j.j c.split_at-2.result.0.now c.loop-j.second end c.loop-j.invariant.second)
     (sealed_all k (sector + 2) c.loop-j.j c.split_at-3.result.0.now c.loop-j.third end c.loop-j.invariant.third)
     (sealed_all k (sector + 3) c.loop-j.j c.split_at-3.result.1.now c.loop-j.fourth end c.loop-j.invariant.fourth)
+
+pub returns-clause-keying : goal.returns-clause-keying
+returns-clause-keying c = grind (arith, common_steps) steps 400000

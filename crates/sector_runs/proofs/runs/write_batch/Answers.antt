@@ -1,4 +1,5 @@
-use Rattle.std.proofs.Common.{◌≡◌, ◌*◌, ◌/◌, ℕ, List, length, subst, sym, ap, ◌∙◌, OnErr, OnOk}
+use Rattle.std.proofs.Common.{◌≡◌, ◌*◌, ◌/◌, ℕ, List, length, subst, sym, ap, ◌∙◌, OnErr, OnOk, arith}
+use Rattle.std.proofs.lemmas.Grind.{common_steps}
 use Rattle.std.proofs.lemmas.List.{take_at}
 use Rattle.block_traits.specs.declared.disk.Event.{Event}
 use Rattle.block_traits.specs.Disk.{FailsIn, Logs, write_events}
@@ -41,3 +42,9 @@ returns-clause-left g c =
     ap (write_events (c.args.sector * units k)) (take_at sealed _ (length c.args.from.now / k.sectorsize * (512 * units k)) (long g here))
     ∙ ap (λ (u : ℕ). write_events (c.args.sector * u) sealed) (sym c.layout-layout.ensures.units)
     ∙ writes g here
+
+pub returns-clause-unasked : goal.returns-clause-unasked
+returns-clause-unasked g c = grind (arith, common_steps) steps 400000
+
+pub returns-clause-keying : goal.returns-clause-keying
+returns-clause-keying g c = grind (arith, common_steps) steps 400000

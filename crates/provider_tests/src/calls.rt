@@ -219,27 +219,26 @@ fn a_sweep(rt: HostRuntime) -> Result<(), Fail> {
 }
 
 // A unit that stands on the disk.
-fn unit_at(watched: &mut Watched, n: u64) -> Result<Sector, Fail> {
-    let provider = &mut watched.provider;
-    let end = provider.sectors().checked_mul(provider.units());
-    if end.is_none_or(|end| n >= end) {
-        return Err(Fail::from("no such unit"));
-    }
+fn unit_at<D: Disk>(provider: &mut Provider<D>, n: u64) -> Result<Sector, Fail> {
     let mut unit = [0; 512];
-    match provider.get_unit(n, &mut unit) {
-        Ok(()) => Ok(unit),
-        Err(_) => Err(Fail::from("the disk failed")),
+    match provider.sectors().checked_mul(provider.units()) {
+        Some(end) if n < end => match provider.get_unit(n, &mut unit) {
+            Ok(()) => Ok(unit),
+            Err(_) => Err(Fail::from("the disk failed")),
+        },
+        _ => Err(Fail::from("no such unit")),
     }
 }
 
 // Whether these bytes are accepted as the unit in a device sector.
-fn accepts(watched: &mut Watched, n: u64, unit: &Sector) -> Result<bool, Fail> {
-    let provider = &mut watched.provider;
-    let end = provider.sectors().checked_mul(provider.units());
-    if !provider.authenticated() || end.is_none_or(|end| n >= end) {
-        return Err(Fail::from("no tags, or no such unit"));
+fn accepts<D: Disk>(provider: &mut Provider<D>, n: u64, unit: &Sector) -> Result<bool, Fail> {
+    if !provider.authenticated() {
+        return Err(Fail::from("no tags"));
     }
-    Ok(provider.unit_ok(n, unit))
+    match provider.sectors().checked_mul(provider.units()) {
+        Some(end) if n < end => Ok(provider.unit_ok(n, unit)),
+        _ => Err(Fail::from("no such unit")),
+    }
 }
 
 // A unit is accepted as it was written and where it stands, and with one changed byte or for another place it isn't.
@@ -248,35 +247,44 @@ fn one_unit(rt: HostRuntime) -> Result<(), Fail> {
     let mut watched = Watched::new(rt.alloc(), Auth::Sha256)?;
     let run = bytes_of(rt.alloc(), 7, 8192)?;
     assert!(&rt; write(&mut watched.provider, 0, &run)?.is_ok());
-    let unit = unit_at(&mut watched, 10)?;
+    let unit = unit_at(&mut watched.provider, 10)?;
     watched.calls.set(NONE);
-    assert!(&rt; accepts(&mut watched, 10, &unit)?);
-    assert!(&rt; !accepts(&mut watched, 11, &unit)?);
-    assert!(&rt; !accepts(&mut watched, 1, &unit)?);
+    assert!(&rt; accepts(&mut watched.provider, 10, &unit)?);
+    assert!(&rt; !accepts(&mut watched.provider, 11, &unit)?);
+    assert!(&rt; !accepts(&mut watched.provider, 1, &unit)?);
     let mut changed = unit;
     changed[100] ^= 1;
-    assert!(&rt; !accepts(&mut watched, 10, &changed)?);
+    assert!(&rt; !accepts(&mut watched.provider, 10, &changed)?);
     assert_eq!(&rt; watched.since(), NONE);
     Ok(())
 }
 
+// The nine units of logical sector 1.
+fn units_of_a_sector<D: Disk>(provider: &mut Provider<D>) -> Result<[u8; 4608], Fail> {
+    let mut device = [0; 4608];
+    for j in 0..9 {
+        let unit = unit_at(provider, 9 + j as u64)?;
+        device[512 * j..512 * j + 512].copy_from_slice(&unit);
+    }
+    Ok(device)
+}
+
 // Opens logical sector 1 from its device sectors.
-fn opened(
-    watched: &mut Watched,
+fn opened<D: Disk>(
+    provider: &mut Provider<D>,
     device: &[u8],
     out: &mut [u8],
 ) -> Result<Result<(), BadUnit>, Fail> {
-    let provider = &mut watched.provider;
     let size = provider.sector_size() as usize;
     let width = 512 * provider.units() as usize;
     let count = out.len() / size;
-    if out.len() % size != 0
-        || count.checked_mul(width) != Some(device.len())
-        || provider.check_range(1, count as u64).is_err()
-    {
+    if out.len() % size != 0 || provider.check_range(1, count as u64).is_err() {
         return Err(Fail::from("no whole sectors"));
     }
-    Ok(provider.open_from(1, device, out))
+    match count.checked_mul(width) {
+        Some(long) if long == device.len() => Ok(provider.open_from(1, device, out)),
+        _ => Err(Fail::from("not their device sectors")),
+    }
 }
 
 // Device sectors are opened in memory, and if one unit is refused, nothing is left in the caller's bytes.
@@ -285,20 +293,14 @@ fn nothing_is_left_of_a_bad_unit(rt: HostRuntime) -> Result<(), Fail> {
     let mut watched = Watched::new(rt.alloc(), Auth::Sha256)?;
     let run = bytes_of(rt.alloc(), 7, 8192)?;
     assert!(&rt; write(&mut watched.provider, 0, &run)?.is_ok());
-    let mut device = bytes_of(rt.alloc(), 0, 9 * 512)?;
-    for j in 0..9 {
-        let unit = unit_at(&mut watched, 9 + j as u64)?;
-        device[512 * j..512 * j + 512].copy_from_slice(&unit);
-    }
+    let mut device = units_of_a_sector(&mut watched.provider)?;
     watched.calls.set(NONE);
     let mut out = [0x55; 4096];
-    assert_eq!(&rt; opened(&mut watched, &device, &mut out)?, Ok(()));
+    assert_eq!(&rt; opened(&mut watched.provider, &device, &mut out)?, Ok(()));
     assert!(&rt; out == [7; 4096]);
     device[8 * 512 + 100] ^= 1;
-    assert_eq!(&rt;
-        opened(&mut watched, &device, &mut out)?,
-        Err(BadUnit { offset: 512 * 17 })
-    );
+    let refused = Err(BadUnit { offset: 512 * 17 });
+    assert_eq!(&rt; opened(&mut watched.provider, &device, &mut out)?, refused);
     assert!(&rt; out == [0; 4096]);
     assert_eq!(&rt; watched.since(), NONE);
     Ok(())

@@ -7,6 +7,7 @@ use eli_base::{Auth, Cipher, REQUEST_LIMIT};
 use provider::{BadUnit, Provider};
 use std::alloc::{AllocError, Global};
 use std::cell::Cell;
+use std::process::Abort;
 use std::rc::Rc;
 use std::test::Fail;
 use verify_sweep::sweep;
@@ -160,36 +161,81 @@ fn bytes_of(alloc: Global, byte: u8, count: usize) -> Result<Vec<u8>, AllocError
     Ok(vec![in alloc; byte; count]?)
 }
 
+fn assert_calls(rt: &impl Abort, found: Calls, wanted: Calls) {
+    assert_eq!(rt; found, wanted);
+}
+
+// Writes so many bytes, each of them 7, by so many runs.
+fn write_sevens(
+    rt: &impl Abort,
+    alloc: Global,
+    watched: &mut Watched,
+    sector: u64,
+    count: usize,
+    runs: u64,
+) -> Result<(), Fail> {
+    let run = bytes_of(alloc, 7, count)?;
+    assert!(rt; write(&mut watched.provider, sector, &run)?.is_ok());
+    assert_calls(rt, watched.since(), Calls { runs, ..NONE });
+    Ok(())
+}
+
+// The first 65,536 bytes, read by so many looks.
+fn first_bytes(
+    rt: &impl Abort,
+    alloc: Global,
+    watched: &mut Watched,
+    looks: u64,
+) -> Result<Vec<u8>, Fail> {
+    let mut into = bytes_of(alloc, 0, 65_536)?;
+    assert!(rt; read(&mut watched.provider, 0, &mut into)?.is_ok());
+    assert_calls(rt, watched.since(), Calls { looks, ..NONE });
+    Ok(into)
+}
+
+fn flush_once(rt: &impl Abort, watched: &mut Watched) {
+    assert!(rt; watched.provider.flush().is_ok());
+    assert_calls(rt, watched.since(), Calls { flushes: 1, ..NONE });
+}
+
+// Whether these are so many bytes, each of them 7.
+fn are_sevens(bytes: &[u8], count: usize) -> bool {
+    for byte in bytes {
+        if *byte != 7 {
+            return false;
+        }
+    }
+    bytes.len() == count
+}
+
+// A run is written at once, and read with what is around it by one look.
+fn plain_run(rt: &impl Abort, alloc: Global, watched: &mut Watched) -> Result<(), Fail> {
+    write_sevens(rt, alloc, watched, 1, 32_768, 1)?;
+    let bytes = first_bytes(rt, alloc, watched, 1)?;
+    assert!(rt; are_sevens(bytes.get(4096..36_864).unwrap_or(&[]), 32_768));
+    flush_once(rt, watched);
+    Ok(())
+}
+
 // A run of sectors that the buffer of a provider has room for is written at once, and any run is read by one look.
 #[test]
 fn plain_runs(rt: HostRuntime) -> Result<(), Fail> {
-    let mut watched = Watched::new(rt.alloc(), Auth::Off)?;
-    let run = bytes_of(rt.alloc(), 7, 32_768)?;
-    assert!(&rt; write(&mut watched.provider, 1, &run)?.is_ok());
-    assert_eq!(&rt; watched.since(), Calls { runs: 1, ..NONE });
-    let mut into = bytes_of(rt.alloc(), 0, 65_536)?;
-    assert!(&rt; read(&mut watched.provider, 0, &mut into)?.is_ok());
-    assert_eq!(&rt; watched.since(), Calls { looks: 1, ..NONE });
-    assert!(&rt; into.get(4096..36_864) == Some(run.as_slice()));
-    assert!(&rt; watched.provider.flush().is_ok());
-    assert_eq!(&rt; watched.since(), Calls { flushes: 1, ..NONE });
+    tried(&rt, rt.alloc(), Trial::Run)
+}
+
+// A run is written by three, and read by three looks.
+fn tagged_run(rt: &impl Abort, alloc: Global, watched: &mut Watched) -> Result<(), Fail> {
+    write_sevens(rt, alloc, watched, 0, 65_536, 3)?;
+    let bytes = first_bytes(rt, alloc, watched, 3)?;
+    assert!(rt; are_sevens(&bytes, 65_536));
+    flush_once(rt, watched);
     Ok(())
 }
 
 // With tags seven logical sectors fill the buffer: 64 device sectors, nine for each. One look serves as many.
 #[test]
 fn tagged_runs(rt: HostRuntime) -> Result<(), Fail> {
-    let mut watched = Watched::new(rt.alloc(), Auth::Sha256)?;
-    let run = bytes_of(rt.alloc(), 7, 65_536)?;
-    assert!(&rt; write(&mut watched.provider, 0, &run)?.is_ok());
-    assert_eq!(&rt; watched.since(), Calls { runs: 3, ..NONE });
-    let mut into = bytes_of(rt.alloc(), 0, 65_536)?;
-    assert!(&rt; read(&mut watched.provider, 0, &mut into)?.is_ok());
-    assert_eq!(&rt; watched.since(), Calls { looks: 3, ..NONE });
-    assert!(&rt; into == run);
-    assert!(&rt; watched.provider.flush().is_ok());
-    assert_eq!(&rt; watched.since(), Calls { flushes: 1, ..NONE });
-    Ok(())
+    tried(&rt, rt.alloc(), Trial::TaggedRun)
 }
 
 // How many units of the first sixteen logical sectors fail.
@@ -203,19 +249,30 @@ fn failing(watched: &mut Watched, found: &mut [u8]) -> Result<u32, Fail> {
     }
 }
 
+// Sweeps sixteen logical sectors, by four looks, and finds so many units that fail.
+fn sweep_sixteen(
+    rt: &impl Abort,
+    alloc: Global,
+    watched: &mut Watched,
+    bad: u32,
+) -> Result<(), Fail> {
+    let mut found = bytes_of(alloc, 0, REQUEST_LIMIT as usize)?;
+    assert_eq!(rt; failing(watched, &mut found)?, bad);
+    assert_calls(rt, watched.since(), Calls { looks: 4, ..NONE });
+    Ok(())
+}
+
+// Sweeps before the sectors were written, and after it.
+fn two_sweeps(rt: &impl Abort, alloc: Global, watched: &mut Watched) -> Result<(), Fail> {
+    sweep_sixteen(rt, alloc, watched, 144)?;
+    write_sevens(rt, alloc, watched, 0, 65_536, 3)?;
+    sweep_sixteen(rt, alloc, watched, 0)
+}
+
 // A sweep looks at four logical sectors at once, whether their units fail or not.
 #[test]
 fn a_sweep(rt: HostRuntime) -> Result<(), Fail> {
-    let mut watched = Watched::new(rt.alloc(), Auth::Sha256)?;
-    let mut found = bytes_of(rt.alloc(), 0, REQUEST_LIMIT as usize)?;
-    assert_eq!(&rt; failing(&mut watched, &mut found)?, 144);
-    assert_eq!(&rt; watched.since(), Calls { looks: 4, ..NONE });
-    let run = bytes_of(rt.alloc(), 7, 65_536)?;
-    assert!(&rt; write(&mut watched.provider, 0, &run)?.is_ok());
-    watched.calls.set(NONE);
-    assert_eq!(&rt; failing(&mut watched, &mut found)?, 0);
-    assert_eq!(&rt; watched.since(), Calls { looks: 4, ..NONE });
-    Ok(())
+    tried(&rt, rt.alloc(), Trial::Sweep)
 }
 
 // A unit that stands on the disk.
@@ -241,22 +298,40 @@ fn accepts<D: Disk>(provider: &mut Provider<D>, n: u64, unit: &Sector) -> Result
     }
 }
 
+// Whether a unit with one changed byte isn't accepted.
+fn refuses_a_changed<D: Disk>(
+    provider: &mut Provider<D>,
+    n: u64,
+    unit: &Sector,
+) -> Result<bool, Fail> {
+    let mut changed = *unit;
+    changed[100] ^= 1;
+    Ok(!accepts(provider, n, &changed)?)
+}
+
+// The unit that stands at 10 is accepted there, and not for two other places, nor with one changed byte.
+fn judges<D: Disk>(rt: &impl Abort, provider: &mut Provider<D>, unit: &Sector) -> Result<(), Fail> {
+    assert!(rt; accepts(provider, 10, unit)?);
+    assert!(rt; !accepts(provider, 11, unit)?);
+    assert!(rt; !accepts(provider, 1, unit)?);
+    assert!(rt; refuses_a_changed(provider, 10, unit)?);
+    Ok(())
+}
+
+// No call of the disk is made while a unit is judged.
+fn judge_a_unit(rt: &impl Abort, alloc: Global, watched: &mut Watched) -> Result<(), Fail> {
+    write_sevens(rt, alloc, watched, 0, 8192, 1)?;
+    let unit = unit_at(&mut watched.provider, 10)?;
+    watched.calls.set(NONE);
+    judges(rt, &mut watched.provider, &unit)?;
+    assert_calls(rt, watched.since(), NONE);
+    Ok(())
+}
+
 // A unit is accepted as it was written and where it stands, and with one changed byte or for another place it isn't.
 #[test]
 fn one_unit(rt: HostRuntime) -> Result<(), Fail> {
-    let mut watched = Watched::new(rt.alloc(), Auth::Sha256)?;
-    let run = bytes_of(rt.alloc(), 7, 8192)?;
-    assert!(&rt; write(&mut watched.provider, 0, &run)?.is_ok());
-    let unit = unit_at(&mut watched.provider, 10)?;
-    watched.calls.set(NONE);
-    assert!(&rt; accepts(&mut watched.provider, 10, &unit)?);
-    assert!(&rt; !accepts(&mut watched.provider, 11, &unit)?);
-    assert!(&rt; !accepts(&mut watched.provider, 1, &unit)?);
-    let mut changed = unit;
-    changed[100] ^= 1;
-    assert!(&rt; !accepts(&mut watched.provider, 10, &changed)?);
-    assert_eq!(&rt; watched.since(), NONE);
-    Ok(())
+    tried(&rt, rt.alloc(), Trial::Unit)
 }
 
 // The nine units of logical sector 1.
@@ -287,21 +362,61 @@ fn opened<D: Disk>(
     }
 }
 
+// They are opened, and once a byte of the last one is changed, that one is refused.
+fn opens<D: Disk>(
+    rt: &impl Abort,
+    provider: &mut Provider<D>,
+    device: &mut [u8; 4608],
+) -> Result<(), Fail> {
+    let mut out = [0x55; 4096];
+    assert_eq!(rt; opened(provider, device, &mut out)?, Ok(()));
+    assert!(rt; out == [7; 4096]);
+    device[8 * 512 + 100] ^= 1;
+    let refused = Err(BadUnit { offset: 512 * 17 });
+    assert_eq!(rt; opened(provider, device, &mut out)?, refused);
+    assert!(rt; out == [0; 4096]);
+    Ok(())
+}
+
+// No call of the disk is made while they are opened.
+fn open_a_sector(rt: &impl Abort, alloc: Global, watched: &mut Watched) -> Result<(), Fail> {
+    write_sevens(rt, alloc, watched, 0, 8192, 1)?;
+    let mut device = units_of_a_sector(&mut watched.provider)?;
+    watched.calls.set(NONE);
+    opens(rt, &mut watched.provider, &mut device)?;
+    assert_calls(rt, watched.since(), NONE);
+    Ok(())
+}
+
 // Device sectors are opened in memory, and if one unit is refused, nothing is left in the caller's bytes.
 #[test]
 fn nothing_is_left_of_a_bad_unit(rt: HostRuntime) -> Result<(), Fail> {
-    let mut watched = Watched::new(rt.alloc(), Auth::Sha256)?;
-    let run = bytes_of(rt.alloc(), 7, 8192)?;
-    assert!(&rt; write(&mut watched.provider, 0, &run)?.is_ok());
-    let mut device = units_of_a_sector(&mut watched.provider)?;
-    watched.calls.set(NONE);
-    let mut out = [0x55; 4096];
-    assert_eq!(&rt; opened(&mut watched.provider, &device, &mut out)?, Ok(()));
-    assert!(&rt; out == [7; 4096]);
-    device[8 * 512 + 100] ^= 1;
-    let refused = Err(BadUnit { offset: 512 * 17 });
-    assert_eq!(&rt; opened(&mut watched.provider, &device, &mut out)?, refused);
-    assert!(&rt; out == [0; 4096]);
-    assert_eq!(&rt; watched.since(), NONE);
-    Ok(())
+    tried(&rt, rt.alloc(), Trial::Opening)
+}
+
+// What is tried upon a new provider.
+#[derive(Clone, Copy)]
+enum Trial {
+    Run,
+    TaggedRun,
+    Sweep,
+    Unit,
+    Opening,
+}
+
+// Tries it. No other function owns a provider: each way out of its owner drops all that is in it, which costs the prover
+// much.
+fn tried(rt: &impl Abort, alloc: Global, trial: Trial) -> Result<(), Fail> {
+    let auth = match trial {
+        Trial::Run => Auth::Off,
+        _ => Auth::Sha256,
+    };
+    let mut watched = Watched::new(alloc, auth)?;
+    match trial {
+        Trial::Run => plain_run(rt, alloc, &mut watched),
+        Trial::TaggedRun => tagged_run(rt, alloc, &mut watched),
+        Trial::Sweep => two_sweeps(rt, alloc, &mut watched),
+        Trial::Unit => judge_a_unit(rt, alloc, &mut watched),
+        Trial::Opening => open_a_sector(rt, alloc, &mut watched),
+    }
 }

@@ -1,6 +1,8 @@
 //! With ample memory no call of a disk in memory lacks it.
 use block_traits::Disk;
 use crash_disk::{CallKind, FailAt, MemDisk, Pick, Torn, survivor_torn, survivor_whole};
+use std::alloc::Global;
+use std::process::Abort;
 use std::test::Fail;
 
 // The value that all bytes of a sector have.
@@ -12,11 +14,8 @@ fn byte_of(disk: &mut MemDisk, n: u64) -> Option<u8> {
     Some(bytes[0])
 }
 
-// Three sectors, of which two are written: the second write fails after it was done.
-#[test]
-fn images_and_what_a_crash_leaves_of_them(rt: HostRuntime) -> Result<(), Fail> {
-    let alloc = rt.alloc();
-    let mut disk = MemDisk::from_image(alloc, &[7; 1540], 8)?;
+// Writes two of three sectors: the second write fails after it was done.
+fn write_two(rt: &impl Abort, disk: &mut MemDisk) -> Result<(), Fail> {
     disk.fail_calls(&[FailAt {
         kind: CallKind::Write,
         nth: 2,
@@ -27,22 +26,47 @@ fn images_and_what_a_crash_leaves_of_them(rt: HostRuntime) -> Result<(), Fail> {
     }
     assert!(rt; disk.write(0, &[8; 512]).is_ok() && disk.flush().is_ok());
     assert!(rt; disk.write(1, &[9; 512]).is_err());
-    let moment = disk.history().len();
-    assert_eq!(rt; moment, 3);
+    assert_eq!(rt; disk.history().len(), 3);
+    Ok(())
+}
+
+fn three_bytes(disk: &mut MemDisk) -> [Option<u8>; 3] {
+    [byte_of(disk, 0), byte_of(disk, 1), byte_of(disk, 2)]
+}
+
+// What a crash leaves after all events, but for sector 1, which has what it had at first.
+fn whole(alloc: Global, disk: &MemDisk) -> Result<MemDisk, Fail> {
     let picks = [Pick { n: 1, place: 0 }];
-    let Ok(mut left) = survivor_whole(alloc, &disk, moment, &picks) else {
-        return Err(Fail::from("no such image"));
-    };
-    let found = [0, 1, 2].map(|n| byte_of(&mut left, n));
-    assert_eq!(rt; found, [Some(8), Some(7), Some(7)]);
+    match survivor_whole(alloc, disk, disk.history().len(), &picks) {
+        Ok(left) => Ok(left),
+        Err(_) => Err(Fail::from("no such image")),
+    }
+}
+
+// What a crash leaves after all events, but for sector 1, which is torn.
+fn torn(alloc: Global, disk: &MemDisk) -> Result<MemDisk, Fail> {
     let torn = [Torn {
         n: 1,
         bytes: [5; 512],
     }];
-    let Ok(mut left) = survivor_torn(alloc, &disk, moment, &[], &torn) else {
-        return Err(Fail::from("no such torn image"));
-    };
-    let found = [0, 1, 2].map(|n| byte_of(&mut left, n));
+    match survivor_torn(alloc, disk, disk.history().len(), &[], &torn) {
+        Ok(left) => Ok(left),
+        Err(_) => Err(Fail::from("no such torn image")),
+    }
+}
+
+// What three sectors have after either crash.
+fn leave(rt: &impl Abort, alloc: Global, disk: &MemDisk) -> Result<(), Fail> {
+    let found = three_bytes(&mut whole(alloc, disk)?);
+    assert_eq!(rt; found, [Some(8), Some(7), Some(7)]);
+    let found = three_bytes(&mut torn(alloc, disk)?);
     assert_eq!(rt; found, [Some(8), Some(5), Some(7)]);
     Ok(())
+}
+
+#[test]
+fn images_and_what_a_crash_leaves_of_them(rt: HostRuntime) -> Result<(), Fail> {
+    let mut disk = MemDisk::from_image(rt.alloc(), &[7; 1540], 8)?;
+    write_two(&rt, &mut disk)?;
+    leave(&rt, rt.alloc(), &disk)
 }

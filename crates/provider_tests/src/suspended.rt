@@ -6,6 +6,7 @@ use eli_base::{Auth, Cipher};
 use eli_metadata::{Metadata, check, encode, size_gate, slot_gate};
 use provider::Provider;
 use std::alloc::Global;
+use std::process::Abort;
 use std::test::Fail;
 use suspend::{ResumeFault, Suspended};
 
@@ -31,32 +32,79 @@ const MARK: [u8; 32] = [
     0x02, 0xf1, 0x5d, 0x60, 0x08, 0xfe, 0x94, 0x77, 0xf2, 0xa7, 0xb8, 0x0f, 0x61, 0x94, 0xb2, 0x0f,
 ];
 
-// The key opens the other provider, but to another master key. With its own metadata it is resumed.
-#[test]
-fn a_key_of_another_master_key(rt: HostRuntime) -> Result<(), Fail> {
-    let alloc = rt.alloc();
-    let kind = (Cipher::AesXts, Auth::Off, 4096);
-    let mut other_disk = MemDisk::new(alloc, 2048, 8)?;
-    let other = made(alloc, &mut other_disk, kind, 0xc3)?;
+const KIND: (Cipher, Auth, u32) = (Cipher::AesXts, Auth::Off, 4096);
+
+// The metadata of another provider on such a disk.
+fn other(alloc: Global) -> Result<Metadata, Fail> {
+    let mut disk = MemDisk::new(alloc, 2048, 8)?;
+    made(alloc, &mut disk, KIND, 0xc3)
+}
+
+fn has_mark(on: &Suspended<MemDisk>) -> bool {
+    on.mark() == MARK
+}
+
+// A suspended provider, and its metadata.
+fn suspended(rt: &impl Abort, alloc: Global) -> Result<(Suspended<MemDisk>, Metadata), Fail> {
     let mut disk = MemDisk::new(alloc, 2048, 16)?;
-    let own = made(alloc, &mut disk, kind, 0x5a)?;
+    let own = made(alloc, &mut disk, KIND, 0x5a)?;
     let provider = attached(alloc, disk, &own, false)?;
-    let (mut on, flushed) = Suspended::suspend(provider);
+    let (on, flushed) = Suspended::suspend(provider);
     assert!(rt; flushed.is_ok());
-    assert!(rt; on.mark() == MARK);
+    assert!(rt; has_mark(&on));
+    Ok((on, own))
+}
+
+// Puts other metadata below a suspended provider.
+fn store(rt: &impl Abort, on: &mut Suspended<MemDisk>, meta: &Metadata) -> Result<(), Fail> {
     let mut sector: Sector = [0; 512];
-    encode(&other, &mut sector);
-    if MetaPlace::sectors(&on) < 1 {
+    encode(meta, &mut sector);
+    if MetaPlace::sectors(on) < 1 {
         return Err(Fail::from("no sector"));
     }
     assert!(rt; on.store(&sector).is_ok());
-    let Err((on, fault)) = resumed(alloc, on, &other)? else {
+    Ok(())
+}
+
+// Resumes by metadata of another master key, and returns what stays suspended.
+fn refused(
+    rt: &impl Abort,
+    alloc: Global,
+    on: Suspended<MemDisk>,
+    meta: &Metadata,
+) -> Result<Suspended<MemDisk>, Fail> {
+    let Err((on, fault)) = resumed(alloc, on, meta)? else {
         return Err(Fail::from("another master key is taken"));
     };
     assert!(rt; matches!(fault, ResumeFault::DifferentKey { kept, opened } if kept != opened));
-    let Ok(provider) = resumed(alloc, on, &own)? else {
-        return Err(Fail::from("its own key isn't taken"));
-    };
-    assert_eq!(rt; provider.sectors(), 255);
+    Ok(on)
+}
+
+// The same provider, after metadata of another master key were stored and refused.
+fn still_suspended(
+    rt: &impl Abort,
+    alloc: Global,
+    on: Suspended<MemDisk>,
+) -> Result<Suspended<MemDisk>, Fail> {
+    let mut on = on;
+    let other = other(alloc)?;
+    store(rt, &mut on, &other)?;
+    refused(rt, alloc, on, &other)
+}
+
+// How many sectors the provider has that is resumed.
+fn sectors_of_resumed(alloc: Global, on: Suspended<MemDisk>, meta: &Metadata) -> Result<u64, Fail> {
+    match resumed(alloc, on, meta)? {
+        Ok(provider) => Ok(provider.sectors()),
+        Err(_) => Err(Fail::from("its own key isn't taken")),
+    }
+}
+
+// The key opens the other provider, but to another master key. With its own metadata it is resumed.
+#[test]
+fn a_key_of_another_master_key(rt: HostRuntime) -> Result<(), Fail> {
+    let (on, own) = suspended(&rt, rt.alloc())?;
+    let on = still_suspended(&rt, rt.alloc(), on)?;
+    assert_eq!(rt; sectors_of_resumed(rt.alloc(), on, &own)?, 255);
     Ok(())
 }

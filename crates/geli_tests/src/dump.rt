@@ -3,6 +3,7 @@ use crate::common::words;
 use block_traits::{Disk, Sector};
 use crash_disk::{MemCabinet, MemDisk, MemEntropy, MemSink, MemSource};
 use geli_core::{Shelf, geli_main};
+use std::alloc::Global;
 use std::test::Fail;
 
 // The first 47 bytes of the metadata: version 7, flags 0x200, AES-XTS, 128 bits, no authentication,
@@ -30,32 +31,52 @@ pub(crate) fn metadata() -> Sector {
     sector
 }
 
-// A shelf of boxed disks gives back the box that it refuses, and shows the events of those that it has.
-#[test]
-fn a_shelf_of_boxed_disks(rt: HostRuntime) -> Result<(), Fail> {
-    let alloc = rt.alloc();
-    let mut shelf = Shelf::new(alloc)?;
+// A shelf with one image, which has the metadata.
+fn shelf_of_one(alloc: Global) -> Result<Shelf, Fail> {
     let mut image = MemDisk::new(alloc, 2, 64)?;
     image.alter(1, &metadata())?;
     let disk: Box<dyn Disk> = Box::new(alloc, image)?;
-    assert!(rt; shelf.add("a.img", disk).is_ok());
+    let mut shelf = Shelf::new(alloc)?;
+    match shelf.add("a.img", disk) {
+        Ok(()) => Ok(shelf),
+        Err(_) => Err(Fail::from("the shelf has no room")),
+    }
+}
+
+// How many sectors the second disk of a name has that comes back.
+fn sectors_of_the_second(alloc: Global, shelf: &mut Shelf) -> Result<u64, Fail> {
     let second: Box<dyn Disk> = Box::new(alloc, MemDisk::new(alloc, 3, 0)?)?;
     match shelf.add("a.img", second) {
-        Err((back, _)) => assert_eq!(rt; back.sectors(), 3),
-        Ok(()) => return Err(Fail::from("two disks of one name")),
+        Err((back, _)) => Ok(back.sectors()),
+        Ok(()) => Err(Fail::from("two disks of one name")),
     }
+}
+
+// The number of the status of `dump`, and how many bytes it prints.
+fn dumped(alloc: Global, shelf: &mut Shelf) -> Result<(u8, usize), Fail> {
+    let words = words(alloc, "dump a.img")?;
+    let mut input = MemSource::new(alloc, b"", &[], &[])?;
     let mut output = MemSink::new(alloc, &[], &[], 2048)?;
+    let mut files = MemCabinet::new(alloc);
+    let mut entropy = MemEntropy::new(alloc, b"")?;
     let ended = geli_main(
         alloc,
-        &words(alloc, "dump a.img")?,
-        &mut MemSource::new(alloc, b"", &[], &[])?,
+        &words,
+        &mut input,
         &mut output,
-        &mut MemCabinet::new(alloc),
-        &mut MemEntropy::new(alloc, b"")?,
-        &mut shelf,
+        &mut files,
+        &mut entropy,
+        shelf,
     );
-    assert_eq!(rt; ended.number(), 0);
-    assert_eq!(rt; output.bytes().len(), 1031);
+    Ok((ended.number(), output.bytes().len()))
+}
+
+// A shelf of boxed disks gives back the box that it refuses, and shows the events of those that it has.
+#[test]
+fn a_shelf_of_boxed_disks(rt: HostRuntime) -> Result<(), Fail> {
+    let mut shelf = shelf_of_one(rt.alloc())?;
+    assert_eq!(rt; sectors_of_the_second(rt.alloc(), &mut shelf)?, 3);
+    assert_eq!(rt; dumped(rt.alloc(), &mut shelf)?, (0, 1031));
     assert!(rt; shelf.events("a.img") == Some([].as_slice()));
     assert!(rt; shelf.events("b.img").is_none());
     Ok(())

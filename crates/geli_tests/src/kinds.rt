@@ -60,23 +60,34 @@ const BY_TURNS: &str = "init -P -K k a.img\ninit -P -K k b.img\ninit -P -K k c.i
 const REPLIES: &str =
     "ok\nerror 26 DeviceFault\nok\nok\nerror 5 BadMagic\nok\nok\nerror 26 DeviceFault\nok\n";
 
+// A shelf with a disk of each kind; the calls of the third are counted.
+fn three_kinds(alloc: Global, calls: Rc<Cell<u64>>) -> Result<Shelf, Fail> {
+    let mut shelf = Shelf::new(alloc)?;
+    add(&mut shelf, "a.img", Box::new(alloc, image(alloc)?)?)?;
+    add(&mut shelf, "b.img", Box::new(alloc, failing(alloc)?)?)?;
+    let counting = CountingDisk::new(image(alloc)?, calls);
+    add(&mut shelf, "c.img", Box::new(alloc, counting)?)?;
+    Ok(shelf)
+}
+
+// A shelf with the first alone.
+fn first_alone(alloc: Global) -> Result<Shelf, Fail> {
+    let mut shelf = Shelf::new(alloc)?;
+    add(&mut shelf, "a.img", Box::new(alloc, image(alloc)?)?)?;
+    Ok(shelf)
+}
+
 // The first disk does what it does if it is alone on a shelf. The third gets a flush, a write and a flush, a read, a
 // write of one sector, and the flush of the closing.
 #[test]
 fn three_kinds_on_one_shelf(rt: HostRuntime) -> Result<(), Fail> {
-    let alloc = rt.alloc();
-    let calls = Rc::new(alloc, Cell::new(0))?;
-    let mut shelf = Shelf::new(alloc)?;
-    add(&mut shelf, "a.img", Box::new(alloc, image(alloc)?)?)?;
-    add(&mut shelf, "b.img", Box::new(alloc, failing(alloc)?)?)?;
-    let counting = CountingDisk::new(image(alloc)?, calls.clone()?);
-    add(&mut shelf, "c.img", Box::new(alloc, counting)?)?;
-    let output = printed(alloc, &mut shelf, "script a.img b.img c.img", BY_TURNS)?;
+    let calls = Rc::new(rt.alloc(), Cell::new(0))?;
+    let mut shelf = three_kinds(rt.alloc(), calls.clone()?)?;
+    let output = printed(rt.alloc(), &mut shelf, "script a.img b.img c.img", BY_TURNS)?;
     assert!(&rt; output.bytes() == REPLIES.as_bytes());
     assert_eq!(rt; calls.get(), 6);
-    let mut alone = Shelf::new(alloc)?;
-    add(&mut alone, "a.img", Box::new(alloc, image(alloc)?)?)?;
-    let output = printed(alloc, &mut alone, "script a.img", ALONE)?;
+    let mut alone = first_alone(rt.alloc())?;
+    let output = printed(rt.alloc(), &mut alone, "script a.img", ALONE)?;
     assert!(&rt; output.bytes() == b"ok\nok\nok\n".as_slice());
     assert!(&rt; alone.events("a.img").is_some() && alone.events("a.img") == shelf.events("a.img"));
     Ok(())

@@ -29,6 +29,25 @@ fn served(
     Ok(end.ok())
 }
 
+// How a line ends, by a letter: accepted, silent, refused, otherwise, or not printed.
+fn letter_of(end: &Option<LineEnd>) -> char {
+    match end {
+        Some(LineEnd::Accepted) => 'a',
+        Some(LineEnd::Silent) => 's',
+        Some(LineEnd::Refused) => 'r',
+        Some(_) => 'o',
+        None => 'n',
+    }
+}
+
+const LINES: [(&str, Sep, char); 5] = [
+    ("list", Sep::Blanks, 'a'),
+    ("  # no", Sep::Blanks, 's'),
+    ("detach\0a.img", Sep::Zeros, 'r'),
+    ("detach b.img", Sep::Blanks, 'r'),
+    ("list", Sep::Blanks, 'n'),
+];
+
 const PRINTED: &str = "a.img idle\nok\nerror 3 NotAttached\nerror 2 UnknownProvider\n";
 
 // A line of blanks says nothing; words may stand between zero bytes; a sink that fails is reported.
@@ -38,15 +57,10 @@ fn a_line_is_served_by_itself(rt: HostRuntime) -> Result<(), Fail> {
     let mut shelf = Drawers::new(alloc)?;
     assert!(&rt; shelf.add("a.img", MemDisk::new(alloc, 64, 0)?).is_ok());
     let mut output = MemSink::new(alloc, &[], &[4], 256)?;
-    let end = served(alloc, &mut shelf, "list", Sep::Blanks, &mut output)?;
-    assert!(&rt; matches!(end, Some(LineEnd::Accepted)));
-    let end = served(alloc, &mut shelf, "  # no", Sep::Blanks, &mut output)?;
-    assert!(&rt; matches!(end, Some(LineEnd::Silent)));
-    let end = served(alloc, &mut shelf, "detach\0a.img", Sep::Zeros, &mut output)?;
-    assert!(&rt; matches!(end, Some(LineEnd::Refused)));
-    let end = served(alloc, &mut shelf, "detach b.img", Sep::Blanks, &mut output)?;
-    assert!(&rt; matches!(end, Some(LineEnd::Refused)));
-    assert!(&rt; served(alloc, &mut shelf, "list", Sep::Blanks, &mut output)?.is_none());
+    for (line, sep, end) in LINES {
+        let ended = served(alloc, &mut shelf, line, sep, &mut output)?;
+        assert_eq!(&rt; letter_of(&ended), end, "{line}");
+    }
     assert!(&rt; output.bytes() == PRINTED.as_bytes());
     Ok(())
 }

@@ -1,4 +1,7 @@
 //! Providers that are served, and bytes of clients.
+use crate::vectors::{
+    ASKING, BY_NAME, BY_NAME_WITHOUT_ZEROES, GOING, LEAVING, ONLY_READING, REPLIES, REQUESTS,
+};
 use block_traits::{ByteList, Disk, DiskFailed};
 use crash_disk::{MemDisk, MemEntropy, MemSink, MemSource};
 use eli_base::{Auth, Cipher};
@@ -10,6 +13,39 @@ use provider::Provider;
 use std::alloc::Global;
 use std::test::Fail;
 use user_key::{Components, PassPart, derive};
+
+// The vectors, each behind a function, so that its digits stand in the code of one function alone.
+pub(crate) fn going() -> [&'static str; 2] {
+    GOING
+}
+
+pub(crate) fn by_name() -> [&'static str; 2] {
+    BY_NAME
+}
+
+pub(crate) fn by_name_without_zeroes() -> [&'static str; 2] {
+    BY_NAME_WITHOUT_ZEROES
+}
+
+pub(crate) fn asking() -> [&'static str; 2] {
+    ASKING
+}
+
+pub(crate) fn leaving() -> [&'static str; 2] {
+    LEAVING
+}
+
+pub(crate) fn only_reading() -> [&'static str; 2] {
+    ONLY_READING
+}
+
+pub(crate) fn requests() -> [(&'static str, u16, u16, u64, u64, u32); 25] {
+    REQUESTS
+}
+
+pub(crate) fn replies() -> [(&'static str, u32, u64); 25] {
+    REPLIES
+}
 
 // The bytes of hexadecimal digits.
 pub(crate) fn bytes_of(alloc: Global, digits: &str) -> Result<Vec<u8>, Fail> {

@@ -1,6 +1,8 @@
 //! A disk, a source and a sink that fail at each of their calls in turn.
-use crate::common::{Outcome, Place, attached, bytes_of, made, piece};
-use crate::vectors::{BY_NAME_WITHOUT_ZEROES, GOING, REPLIES, REQUESTS};
+use crate::common::{
+    Outcome, Place, attached, by_name_without_zeroes, bytes_of, going, made, piece, replies,
+    requests,
+};
 use block_traits::Event;
 use crash_disk::{CallKind, FailAt, MemDisk, MemSink, MemSource};
 use eli_base::Auth;
@@ -87,7 +89,7 @@ impl Failing {
             nth: of_kind(MADE, self.kind).saturating_add(self.nth),
             lands: self.lands,
         }])?;
-        let [said, _] = GOING;
+        let [said, _] = going();
         let said = bytes_of(alloc, said)?;
         let mut input = MemSource::new(alloc, said.as_slice(), &[], &[])?;
         let provider = attached(alloc, disk, &meta, false)?;
@@ -103,7 +105,7 @@ impl Failing {
         let mut at: usize = 104;
         let mut before: u64 = 0;
         let mut events: u64 = 4;
-        for ((request, reply), calls) in REQUESTS.iter().zip(REPLIES.iter()).zip(CALLS.iter()) {
+        for ((request, reply), calls) in requests().iter().zip(replies().iter()).zip(CALLS.iter()) {
             let (_, code, _, _, _, length) = *request;
             let (_, error, cookie) = *reply;
             let behind = before.saturating_add(of_kind(*calls, self.kind));
@@ -173,7 +175,7 @@ fn with_streams(
     source: &[u64],
     sink: &[u64],
 ) -> Result<(End, usize, usize), Fail> {
-    let [said, _] = BY_NAME_WITHOUT_ZEROES;
+    let [said, _] = by_name_without_zeroes();
     let said = bytes_of(alloc, said)?;
     let mut disk = MemDisk::new(alloc, 513, 256)?;
     let meta = made(alloc, &mut disk, Auth::Off, 512)?;

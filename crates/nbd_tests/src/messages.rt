@@ -1,6 +1,7 @@
 //! Each message of nbd_words, against the bytes that libnbd sent and nbdkit answered.
-use crate::common::{bytes_of, piece};
-use crate::vectors::{ASKING, BY_NAME, BY_NAME_WITHOUT_ZEROES, GOING, REPLIES, REQUESTS};
+use crate::common::{
+    asking, by_name, by_name_without_zeroes, bytes_of, going, piece, replies, requests,
+};
 use nbd_words::{
     ClientFlags, Export, OptionHead, OptionReply, ReplyError, Request, block_size_info,
     client_flags_in, export_info, greeting, info_request_fits, option_head_in, option_reply_head,
@@ -20,7 +21,7 @@ fn export() -> Export {
 
 #[test]
 fn requests_are_those_of_libnbd(rt: HostRuntime) -> Result<(), Fail> {
-    for (digits, code, flags, cookie, offset, length) in REQUESTS {
+    for (digits, code, flags, cookie, offset, length) in requests() {
         let bytes = bytes_of(rt.alloc(), digits)?;
         let request = Request {
             flags,
@@ -48,7 +49,7 @@ fn error_of(number: u32) -> Option<ReplyError> {
 
 #[test]
 fn replies_are_those_of_nbdkit(rt: HostRuntime) -> Result<(), Fail> {
-    for (digits, number, cookie) in REPLIES {
+    for (digits, number, cookie) in replies() {
         let bytes = bytes_of(rt.alloc(), digits)?;
         let Some(error) = error_of(number) else {
             return Err(Fail::from("an error that isn't given"));
@@ -61,9 +62,9 @@ fn replies_are_those_of_nbdkit(rt: HostRuntime) -> Result<(), Fail> {
 #[test]
 fn a_session_begins_as_nbdkits(rt: HostRuntime) -> Result<(), Fail> {
     for (session, fixed_newstyle, no_zeroes) in [
-        (GOING, true, true),
-        (BY_NAME, false, false),
-        (BY_NAME_WITHOUT_ZEROES, false, true),
+        (going(), true, true),
+        (by_name(), false, false),
+        (by_name_without_zeroes(), false, true),
     ] {
         let [said, answered] = session;
         let said = bytes_of(rt.alloc(), said)?;
@@ -91,7 +92,7 @@ const OPTIONS: [(usize, u32, u32); 5] = [
 
 #[test]
 fn options_are_those_of_libnbd(rt: HostRuntime) -> Result<(), Fail> {
-    let [said, _] = ASKING;
+    let [said, _] = asking();
     let said = bytes_of(rt.alloc(), said)?;
     for (place, code, length) in OPTIONS {
         let head = OptionHead { code, length };
@@ -118,7 +119,7 @@ const ANSWERS: [(usize, u32, OptionReply, u32); 8] = [
 
 #[test]
 fn options_are_answered_as_by_nbdkit(rt: HostRuntime) -> Result<(), Fail> {
-    let [_, answered] = ASKING;
+    let [_, answered] = asking();
     let answered = bytes_of(rt.alloc(), answered)?;
     for (place, code, reply, length) in ANSWERS {
         let head = option_reply_head(code, reply, length);
@@ -129,11 +130,11 @@ fn options_are_answered_as_by_nbdkit(rt: HostRuntime) -> Result<(), Fail> {
 
 #[test]
 fn an_export_is_told_as_by_nbdkit(rt: HostRuntime) -> Result<(), Fail> {
-    let [_, answered] = ASKING;
+    let [_, answered] = asking();
     let answered = bytes_of(rt.alloc(), answered)?;
     assert_eq!(&rt; export_info(&export()), piece(answered.as_slice(), 102));
     assert_eq!(&rt; block_size_info(&export()), piece(answered.as_slice(), 134));
-    let [_, answered] = BY_NAME;
+    let [_, answered] = by_name();
     let answered = bytes_of(rt.alloc(), answered)?;
     assert_eq!(&rt;
         plain_export(&export()).as_slice(),

@@ -161,19 +161,31 @@ const REFUSED: [(bool, u16, u16, u64, u32, u8); 32] = [
     (true, READ, 0, SIZE, 1, 22),
 ];
 
+// A client that sends a request, a flush and the end.
+fn flushing(alloc: Global, kind: (u16, u16), offset: u64, length: u32) -> Result<Client, Fail> {
+    let mut client = Client::new(alloc)?;
+    client.asks(kind, 7, offset, length)?;
+    client.asks((FLUSH, 0), 9, 0, 0)?;
+    client.asks((DISCONNECT, 0), 11, 0, 0)?;
+    Ok(client)
+}
+
+// An error in reply to the request, and none to the flush.
+fn refused_and_flushed(alloc: Global, error: u8) -> Result<Vec<u8>, Fail> {
+    let mut bytes = Vec::from_slice(alloc, &reply(error, 7))?;
+    bytes.extend_from_slice(&reply(0, 9))?;
+    Ok(bytes)
+}
+
 // Each of these requests is answered, nothing is done for it, and the session goes on.
 #[test]
 fn requests_are_refused(rt: HostRuntime) -> Result<(), Fail> {
     let alloc = rt.alloc();
     let mut place = Place::new(alloc)?;
     for (readonly, code, flags, offset, length, error) in REFUSED {
-        let mut client = Client::new(alloc)?;
-        client.asks((code, flags), 7, offset, length)?;
-        client.asks((FLUSH, 0), 9, 0, 0)?;
-        client.asks((DISCONNECT, 0), 11, 0, 0)?;
+        let client = flushing(alloc, (code, flags), offset, length)?;
         let answer = answered_to(alloc, &mut place, &client, provider_of(alloc, readonly)?)?;
-        let mut expected = Vec::from_slice(alloc, &reply(error, 7))?;
-        expected.extend_from_slice(&reply(0, 9))?;
+        let expected = refused_and_flushed(alloc, error)?;
         assert_eq!(&rt;
             answer.bytes.as_slice(),
             expected.as_slice(),
@@ -185,23 +197,33 @@ fn requests_are_refused(rt: HostRuntime) -> Result<(), Fail> {
     Ok(())
 }
 
+// Writes that are refused: whether the export is read-only, the flags, the offset and the length, and the number of the
+// error.
+const WRITES: [(bool, u16, u64, u32, u8); 7] = [
+    (true, 0, 0, 5, 1),
+    (true, 2, SIZE, 5, 1),
+    (false, 2, 0, 5, 22),
+    (false, 16, SIZE, 5, 22),
+    (false, 0, SIZE, 1, 28),
+    (false, 1, SIZE - 4, 5, 28),
+    (false, 0, 18_446_744_073_709_551_615, 5, 28),
+];
+
+// A client that writes and ends.
+fn writing(alloc: Global, flags: u16, offset: u64, length: u32) -> Result<Client, Fail> {
+    let mut client = Client::new(alloc)?;
+    client.writes(flags, offset, length, 0x25)?;
+    client.asks((DISCONNECT, 0), 2, 0, 0)?;
+    Ok(client)
+}
+
 // A write is taken whole and then refused; what is on the disk stays.
 #[test]
 fn writes_are_refused_behind_their_bytes(rt: HostRuntime) -> Result<(), Fail> {
     let alloc = rt.alloc();
     let mut place = Place::new(alloc)?;
-    for (readonly, flags, offset, length, error) in [
-        (true, 0, 0, 5, 1),
-        (true, 2, SIZE, 5, 1),
-        (false, 2, 0, 5, 22),
-        (false, 16, SIZE, 5, 22),
-        (false, 0, SIZE, 1, 28),
-        (false, 1, SIZE - 4, 5, 28),
-        (false, 0, 18_446_744_073_709_551_615, 5, 28),
-    ] {
-        let mut client = Client::new(alloc)?;
-        client.writes(flags, offset, length, 0x25)?;
-        client.asks((DISCONNECT, 0), 2, 0, 0)?;
+    for (readonly, flags, offset, length, error) in WRITES {
+        let client = writing(alloc, flags, offset, length)?;
         let answer = answered_to(alloc, &mut place, &client, provider_of(alloc, readonly)?)?;
         assert_eq!(&rt; answer.bytes.as_slice(), reply(error, 1).as_slice());
         assert_eq!(&rt; answer.end, End::Closed);
@@ -210,16 +232,22 @@ fn writes_are_refused_behind_their_bytes(rt: HostRuntime) -> Result<(), Fail> {
     Ok(())
 }
 
+// A client that writes a sector, sends these bytes, and asks for a flush.
+fn saying(alloc: Global, wrong: &[u8; 28]) -> Result<Client, Fail> {
+    let mut client = Client::new(alloc)?;
+    client.writes(0, 0, 4096, 0x25)?;
+    client.said.extend_from_slice(wrong)?;
+    client.asks((FLUSH, 0), 9, 0, 0)?;
+    Ok(client)
+}
+
 // What no client sends ends the session, and the disk is flushed. What was asked before is answered.
 #[test]
 fn what_no_client_says_ends_it(rt: HostRuntime) -> Result<(), Fail> {
     let alloc = rt.alloc();
     let mut place = Place::new(alloc)?;
     for wrong in [request((WRITE, 0), 5, 0, MOST + 1), [0x25; 28], [0; 28]] {
-        let mut client = Client::new(alloc)?;
-        client.writes(0, 0, 4096, 0x25)?;
-        client.said.extend_from_slice(&wrong)?;
-        client.asks((FLUSH, 0), 9, 0, 0)?;
+        let client = saying(alloc, &wrong)?;
         let answer = answered_to(alloc, &mut place, &client, provider_of(alloc, false)?)?;
         assert_eq!(&rt; answer.bytes.as_slice(), reply(0, 1).as_slice());
         assert_eq!(&rt; answer.end, End::Malformed);
@@ -246,18 +274,24 @@ fn of_the_second_sector(alloc: Global, size: u32) -> Result<Client, Fail> {
     Ok(client)
 }
 
-// Under a code for integrity a sector that was never written has no tag: it can't be read, and so not written in part.
-// Once it was written whole it can be; the one after it still can't.
-#[test]
-fn sectors_that_were_never_written(rt: HostRuntime) -> Result<(), Fail> {
-    let alloc = rt.alloc();
-    let mut place = Place::new(alloc)?;
+// The replies to such a client.
+fn of_a_sector_that_had_no_tag(alloc: Global) -> Result<Vec<u8>, Fail> {
     let mut expected = Vec::new(alloc);
     for error in [5, 5, 5, 0, 0, 0, 0] {
         expected.extend_from_slice(&reply(error, 1))?;
     }
     expected.extend_from_slice(&[0x33, 0x25, 0x25, 0, 0x33])?;
     expected.extend_from_slice(&reply(5, 1))?;
+    Ok(expected)
+}
+
+// Under a code for integrity a sector that was never written has no tag: it can't be read, and so not written in part.
+// Once it was written whole it can be; the one after it still can't.
+#[test]
+fn sectors_that_were_never_written(rt: HostRuntime) -> Result<(), Fail> {
+    let alloc = rt.alloc();
+    let mut place = Place::new(alloc)?;
+    let expected = of_a_sector_that_had_no_tag(alloc)?;
     for size in [512, 4096, 65_536] {
         let client = of_the_second_sector(alloc, size)?;
         let answer = answered_to(alloc, &mut place, &client, unwritten(alloc, size)?)?;

@@ -1,7 +1,7 @@
 //! Whole sessions, against those of libnbd with nbdkit, and cut or failing anywhere.
-use crate::common::{Outcome, Place, attached, bytes_of, made, piece};
-use crate::vectors::{
-    ASKING, BY_NAME, BY_NAME_WITHOUT_ZEROES, GOING, LEAVING, ONLY_READING, REPLIES, REQUESTS,
+use crate::common::{
+    Outcome, Place, asking, attached, by_name, by_name_without_zeroes, bytes_of, going, leaving,
+    made, only_reading, piece, replies, requests,
 };
 use block_traits::Event;
 use crash_disk::{MemDisk, MemSink, MemSource};
@@ -60,12 +60,12 @@ fn sessions_are_answered_as_by_nbdkit(rt: HostRuntime) -> Result<(), Fail> {
     let mut place = Place::new(alloc)?;
     for sectorsize in [512, 4096] {
         for (session, readonly) in [
-            (GOING, false),
-            (BY_NAME, false),
-            (BY_NAME_WITHOUT_ZEROES, false),
-            (ASKING, false),
-            (LEAVING, false),
-            (ONLY_READING, true),
+            (going(), false),
+            (by_name(), false),
+            (by_name_without_zeroes(), false),
+            (asking(), false),
+            (leaving(), false),
+            (only_reading(), true),
         ] {
             let talk = talk_of(alloc, session)?;
             let provider = provider_of(alloc, sectorsize, readonly)?;
@@ -85,7 +85,7 @@ const PREFERRED: usize = 76;
 fn the_largest_sectors(rt: HostRuntime) -> Result<(), Fail> {
     let alloc = rt.alloc();
     let mut place = Place::new(alloc)?;
-    let Talk { said, mut answered } = talk_of(alloc, GOING)?;
+    let Talk { said, mut answered } = talk_of(alloc, going())?;
     assert_eq!(&rt; piece(answered.as_slice(), PREFERRED), [0, 0, 0x10, 0]);
     for (byte, other) in answered.iter_mut().skip(PREFERRED).zip([0, 1, 0, 0]) {
         *byte = other;
@@ -103,7 +103,7 @@ fn answered_to(taken: usize) -> usize {
     }
     let mut left = taken - 28;
     let mut answered: usize = 104;
-    for ((_, code, _, _, _, length), (_, error, _)) in REQUESTS.iter().zip(REPLIES.iter()) {
+    for ((_, code, _, _, _, length), (_, error, _)) in requests().iter().zip(replies().iter()) {
         let sent = if *code == 1 { *length } else { 0 };
         let read = if *code == 0 && *error == 0 {
             *length
@@ -157,7 +157,7 @@ fn is_cut_well(
 fn what_came_whole_is_answered(rt: HostRuntime) -> Result<(), Fail> {
     let alloc = rt.alloc();
     let mut place = Place::new(alloc)?;
-    let talk = talk_of(alloc, BY_NAME_WITHOUT_ZEROES)?;
+    let talk = talk_of(alloc, by_name_without_zeroes())?;
     for taken in 0..=talk.said.len() {
         let answered = answered_by_name(taken);
         let good = is_cut_well(alloc, &mut place, &talk, taken, answered)?;
@@ -172,7 +172,7 @@ fn what_came_whole_is_answered(rt: HostRuntime) -> Result<(), Fail> {
 fn what_came_whole_of_many_requests_is_answered(rt: HostRuntime) -> Result<(), Fail> {
     let alloc = rt.alloc();
     let mut place = Place::new(alloc)?;
-    let talk = talk_of(alloc, GOING)?;
+    let talk = talk_of(alloc, going())?;
     for taken in 0..72 {
         let good = is_cut_well(alloc, &mut place, &talk, taken, answered_to(taken))?;
         assert!(&rt; good, "{taken}");
@@ -189,7 +189,7 @@ fn what_came_whole_of_many_requests_is_answered(rt: HostRuntime) -> Result<(), F
 fn bytes_come_one_by_one(rt: HostRuntime) -> Result<(), Fail> {
     let alloc = rt.alloc();
     let mut place = Place::new(alloc)?;
-    let talk = talk_of(alloc, GOING)?;
+    let talk = talk_of(alloc, going())?;
     let cuts = vec![in alloc; 1; 8192]?;
     let mut input = MemSource::new(alloc, &talk.said, &cuts, &[])?;
     let mut output = MemSink::new(alloc, &cuts, &[], 8192)?;

@@ -357,6 +357,6 @@ tell_iterations() {
 # for modules in the caller's folder.
 python_part() {
     GELI_INSTALLED=$installed python3 -I -B -c \
-        'import sys; sys.path.insert(0, sys.argv.pop(1)); exec(compile(sys.stdin.read(), sys.argv[1], "exec"))' \
+        'import sys; sys.path.insert(0, sys.argv.pop(1)); exec(compile(sys.stdin.read(), f"<{sys.argv[1]}>", "exec"))' \
         "$library" "$program" "$GELI" "$@"
 }

@@ -57,7 +57,7 @@ def commands(program, size):
         "basenc --base16 -d": "basenc --base16 -d <upper >/dev/null",
         "xxd -p": "xxd -p plain >/dev/null",
         "basenc --base16": "basenc -w0 --base16 plain >/dev/null",
-        "examples/copy-in.sh": f"{EXAMPLES}/copy-in.sh -j pass plain a.img",
+        "examples/copy-in.sh": f"{EXAMPLES}/copy-in.sh -f -j pass plain a.img",
         "examples/copy-out.sh": f"rm -f back && {EXAMPLES}/copy-out.sh -j pass a.img back",
     }
     if shutil.which("grub-fstest"):

@@ -34,11 +34,11 @@ python_part "$image" "${key[*]}" "$private/place" "$1" <<'PY'
 import shlex
 import sys
 from lib import (REQUEST, WHY_UNREADABLE, Failed, Progress, Session, called, fields_of, is_tagged, length_of_image,
-                 ranges, run, tell_unreadable, told)
+                 ranges, run, say, tell_unreadable, told)
 
 
 def stop(session, *lines):
-    print(*lines, sep="\n")
+    say(*lines)
     session.end()
     sys.exit(1)
 
@@ -76,7 +76,10 @@ def open_by(session, key):
                    " the other slot is as before."],
             "8": ["The image was cut, lengthened or copied by other means. See BadSize in geli(8)."],
         }
-        stop(session, f"key: {told(reply)}", *helps.get(reply.split(" ")[1], []))
+        number = reply.split(" ")[1]
+        if number in ("9", "10", "11", "12", "13"):
+            stop(session, f"metadata: whole, but nobody can open their provider here: {told(reply)}")
+        stop(session, f"key: {told(reply)}", *helps.get(number, []))
     session.look()
 
 

@@ -68,9 +68,8 @@ if [ "$new_pass" = none ]; then
     fresh+=(-P) trial+=(-p)
 else
     if [ -z "$new_pass" ]; then
-        private_folder
-        new_pass=$private/new
-        ask_passphrase "$new_pass" 'new passphrase' twice
+        ask_passphrase 'new passphrase' twice
+        new_pass=$secret
     fi
     fresh+=(-J "$new_pass") trial+=(-j "$new_pass")
 fi

@@ -1,10 +1,12 @@
 #!/usr/bin/env bash
 # copy-in.sh: copies a plain file, such as a filesystem image, into a provider, byte for byte from its sector 0 on.
 #
-#   copy-in.sh [-c] [-p] [-j PASSFILE] [-k KEYFILE]... SOURCE IMAGE
+#   copy-in.sh [-cf] [-p] [-j PASSFILE] [-k KEYFILE]... SOURCE IMAGE
 #
-# The data in those sectors of the provider are overwritten. The passphrase is asked for; -j names a file whose first
-# line it is, -p says that there is none. With -c the sectors are read again afterwards and compared.
+# The data in those sectors of the provider are overwritten: a filesystem there is lost, with all its files. So the name
+# of the image must be typed, unless the first MiB of its data is zeros, or can't be read; -f doesn't ask. (To copy
+# files into a filesystem, mount it: mount-provider.sh.) The passphrase is asked for; -j names a file whose first line
+# it is, -p says that there is none. With -c the sectors are read again afterwards and compared.
 # If SOURCE ends within a sector, the rest of that sector becomes zeros.
 #
 # It uses nbdcopy(1) over geli-nbd(8) if both are installed. Otherwise, or if they fail, it copies in pieces of up to
@@ -15,11 +17,12 @@ set -euo pipefail
 # shellcheck source=lib.sh
 . "$(dirname -- "$(readlink -f -- "${BASH_SOURCE[0]}")")/lib.sh"
 
-usage() { note "usage: $program [-c] [-p] [-j PASSFILE] [-k KEYFILE]... SOURCE IMAGE"; exit 2; }
-check=
-while getopts cpj:k: option; do
+usage() { note "usage: $program [-cf] [-p] [-j PASSFILE] [-k KEYFILE]... SOURCE IMAGE"; exit 2; }
+check='' forced=''
+while getopts cfpj:k: option; do
     case $option in
         c) check=yes ;;
+        f) forced=yes ;;
         p | j | k) key_option "$option" "${OPTARG:-}" ;;
         *) usage ;;
     esac
@@ -33,6 +36,43 @@ readable "$source"
 image_is_there written
 for file in "${files[@]}"; do [ ! "$source" -ef "$file" ] || fail "'$source' and '$file' are one file"; done
 key_ready
+PATH=$PATH:/usr/sbin:/sbin # blkid
+
+# standing: prints what is in the provider already, nothing if its first MiB is zeros. That of a new image is.
+standing() {
+    python_part "$source" "$image" "${key[*]}" "${files[0]}" <<'PY'
+import os
+from lib import Session, is_new, kind_of, run
+
+
+def standing(geli, source, image, key, file):
+    if is_new(file):
+        return
+    session = Session(geli, image)
+    session.attach(key)
+    session.must_hold(source)
+    data, size = session.beginning(), session.sectors * session.width
+    session.must("detach", image)
+    session.end()
+    if data.strip(b"\0"):
+        place = os.memfd_create("data")
+        os.write(place, data)
+        os.ftruncate(place, size)
+        print(kind_of(f"/dev/fd/{place}", pass_fds=[place]) or "data")
+
+
+run(standing)
+PY
+}
+if [ -z "$forced" ]; then
+    there=$(standing)
+    if [ -n "$there" ]; then
+        note "$2: there is something in it, $there: its first $(stat -Lc %s -- "$source") bytes will be lost" \
+            "(to copy files into a filesystem: $(called mount-provider))"
+        has_terminal || fail 'nothing was changed: no terminal to ask at (-f does it without)'
+        sure_of "$2" 'copy over it'
+    fi
+fi
 
 python_part "$source" "$image" "$check" "${key[*]}" "$2" "$(nbdcopy_over)" <<'PY'
 import contextlib
@@ -108,9 +148,8 @@ class CopyIn:
         session = Session(self.geli, self.image)
         with self.halfway() if is_begun else contextlib.nullcontext():
             session.attach(self.key)
-        width, room = session.width, session.sectors * session.width
-        if self.size > room:
-            raise Failed(f"{self.source} has {self.size} bytes, the provider has room for {room}: nothing was written")
+        width = session.width
+        session.must_hold(self.source)
         whole = hashlib.sha256()
         with self.halfway():
             with open(self.source, "rb") as file:

@@ -83,7 +83,7 @@ if [ -z "$resumed" ] || ((length < size)) || ! opens; then
     # Once the image is longer, `resize` must not be refused because another program holds it.
     exec {lock}<>"$grown"
     flock -n "$lock" ||
-        fail "nothing was changed: another program holds '$grown' (end it, as by $(called serve-nbd) -e)"
+        fail "nothing was changed: another program holds '$grown' ($(called serve-nbd) -e or $(called mount-provider) -u ends it)"
     has_length() { (($(stat -Lc %s -- "$grown") == length - before)); }
     has_length || fail "nothing was changed: another program has changed the length of '$grown' meanwhile"
     left() { has_length || note "$again"; }

@@ -2,6 +2,7 @@
 
     python3 keep_mount.py CALLED mount WORD=VALUE...
     python3 keep_mount.py CALLED unmount WORD=VALUE...
+    python3 keep_mount.py CALLED list state=FOLDER
 
 `mount` starts the keeper in a session of its own, shows what that says, and ends once the filesystem is mounted. The
 keeper starts nbdfuse with the server on its standard streams, checks the filesystem in the device, runs the
@@ -14,12 +15,13 @@ it starts, so that a signal to all leaves the writing to those who write.
 A mount has a folder (STATE). Its files are `result`, which the one who keeps the mount holds a lock of, and where in
 the end a status and words stand; `device` and `files`, of which the programs behind the device and those over it hold
 locks while they run; `begun`, with what is mounted, from before that; `up`, once it is; `waits`, with what hinders its
-end; `ended`, where the server says how it ended; `keeper`, the number of a process; `private`, the folder of the
-passphrase; and the folder `disk`, where the device is.
+end; `ended`, where the server says how it ended; `of`, the folder and the image; `keeper`, the number of a process;
+`private`, the folder of links to files; and the folder `disk`, where the device is.
 """
 import collections
 import contextlib
 import fcntl
+import json
 import os
 import re
 import select
@@ -33,7 +35,9 @@ import threading
 import time
 from pathlib import Path
 
-from lib import REFUSED, Failed, Refusals, files_of, name_of, note
+sys.path.insert(0, os.path.dirname(os.path.abspath(__file__)))  # which python3 -I leaves out
+from lib import (REFUSED, Failed, Refusals, called, close_others, descriptors_of, files_of, is_new, is_zeros, name_of,
+                 note, say)
 
 SIGNALS = {signal.SIGTERM, signal.SIGINT, signal.SIGHUP}
 BLOCKED = SIGNALS | {signal.SIGCHLD}
@@ -46,7 +50,6 @@ PACKAGES = {"fuse2fs": "fuse2fs", "grub-mount": "grub-common"}
 REFUSAL = re.compile(": (write|write-zeroes|flush): command failed: ")  # libnbd says it of what a server refused
 NEEDS_JOURNAL = "Journal needs recovery"  # fuse2fs says it if it may not write
 JOURNAL = "Writing to the journal is not supported."  # fuse2fs says it of each ext4 that has one
-NEW = 1 << 20  # bytes that are zeros at the beginning of a provider, or a file, if nobody wrote to it yet
 AT_REST = 3.0  # seconds after which what was written is synced, though nobody asks
 PATIENCE = 5.0  # seconds in which a mount that is in use is waited for, once its end is asked for
 GRACE = 2.0  # seconds in which a device that nobody needs any more may end by itself
@@ -58,7 +61,7 @@ def server(words, ended):
     `ended` how that went."""
     here = os.path.dirname(os.path.abspath(__file__))
     parts = [f"partition={words['partition']}"] if words["partition"] else []
-    return ["env", "-C", words["here"], "python3", "-B", f"{here}/nbd_server.py", f"ended={ended}", *parts, "--",
+    return ["env", "-C", words["here"], "python3", "-I", "-B", f"{here}/nbd_server.py", f"ended={ended}", *parts, "--",
             words["geli-nbd"], *["-r"] * ("r" in words["options"]), *words["key"].split(" "), words["image"]]
 
 
@@ -149,11 +152,6 @@ def loops_over(file):
     return found
 
 
-def is_zeros(path):
-    with open(path, "rb") as file:
-        return not file.read(NEW).strip(b"\0")
-
-
 class Superblock:
     """What is asked of the superblock of an ext2, ext3 or ext4 (fields of struct ext2_super_block)."""
 
@@ -180,6 +178,7 @@ class State:
         self.begun, self.up, self.waits = self.path / "begun", self.path / "up", self.path / "waits"
         self.device, self.files = self.path / "device", self.path / "files"
         self.keeper, self.private = self.path / "keeper", self.path / "private"
+        self.of = self.path / "of"
 
     def text(self, file):
         """What a file of it has; nothing if it isn't there."""
@@ -194,7 +193,7 @@ class State:
         new.replace(file)
 
     def remove_private(self):
-        """Removes the folder of the passphrase, and of links, that mount-provider.sh made."""
+        """Removes the folder of links to files that mount-provider.sh made."""
         name = self.text(self.private)
         if name:
             shutil.rmtree(name, ignore_errors=True)
@@ -262,16 +261,18 @@ def need(program):
 
 
 class Program:
-    """A program that runs until something ends it, and holds a lock meanwhile. Its last lines are kept."""
+    """A program that runs until something ends it, and holds a lock meanwhile. Its last lines are kept. It gets the
+    open files of these numbers too."""
 
-    def __init__(self, command, lock, **how):
+    def __init__(self, command, lock, descriptors=(), **how):
         self.lines = collections.deque(maxlen=20)
         with open(lock, "ab") as held:
             fcntl.flock(held, fcntl.LOCK_SH)
             # A keeper that is killed doesn't end those who write to its pipe: SIGPIPE stays ignored.
             self.process = subprocess.Popen(
                 list(map(str, command)), stdin=subprocess.DEVNULL, stdout=subprocess.PIPE, stderr=subprocess.STDOUT,
-                errors="replace", cwd="/", preexec_fn=in_child, restore_signals=False, pass_fds=[held.fileno()], **how)
+                errors="replace", cwd="/", preexec_fn=in_child, restore_signals=False,
+                pass_fds=[held.fileno(), *descriptors], **how)
         self.reader = threading.Thread(target=self.read, daemon=True)
         self.reader.start()
 
@@ -290,9 +291,9 @@ class Program:
 class Device(Program):
     """nbdfuse, which says a line of each request that the server refused: who uses a filesystem need not hear of it."""
 
-    def __init__(self, command, lock, files):
+    def __init__(self, command, lock, files, descriptors):
         self.refusals = Refusals(files)
-        super().__init__(command, lock, start_new_session=True)
+        super().__init__(command, lock, descriptors, start_new_session=True)
 
     def read(self):
         for line in self.process.stdout:
@@ -311,6 +312,7 @@ class Keeper:
         self.reads_only = "r" in self.options
         self.kind, self.number = "", None
         self.device = self.program = None
+        self.secrets = descriptors_of(words.get("key", ""))
         self.files = []  # that the image lies in
         self.ends = self.problem = ""
 
@@ -324,10 +326,17 @@ class Keeper:
             self.wait()
         except (Failed, OSError, struct.error) as failed:
             self.problem = str(failed)
+        self.forget_key()
         if self.device:
-            self.state.remove_private()
             self.take_down()
         return self.problem
+
+    def forget_key(self):
+        """No key file or passphrase is needed any more: who still has a typed one open finds nothing in it."""
+        self.state.remove_private()
+        while self.secrets:
+            with open(self.secrets.pop(), "wb") as secret:
+                secret.truncate(0)
 
     def pause(self, seconds=None):
         """Waits for a signal, for so many seconds at most."""
@@ -360,16 +369,18 @@ class Keeper:
         self.say("step", "opening the provider: its key is derived")
         command = ["nbdfuse", *["-r"] * self.reads_only, self.state.disk, "--command",
                    *server(self.words, self.state.ended)]
-        self.device = Device(command, self.state.device, self.files)
+        self.device = Device(command, self.state.device, self.files, self.secrets)
         while not os.path.exists(self.state.nbd):
             self.pause(0.05)
             if self.ends:
                 os.killpg(self.device.process.pid, signal.SIGKILL)  # nobody has asked it to write yet
                 raise Failed(f"ended by {self.ends}")
             if not self.device.runs():
+                while is_used(self.state.device):  # the server may still write down how it ended
+                    time.sleep(0.02)
                 said = self.state.text(self.state.ended)
                 raise Failed(said if said not in ("", "ok") else f"nbdfuse: {self.device.said()}")
-        self.state.remove_private()  # no key file is needed any more
+        self.forget_key()
 
     def prepare(self):
         """Finds, makes, checks and grows the filesystem."""
@@ -377,6 +388,8 @@ class Keeper:
         if not self.kind and set("mM") & set(self.options):
             self.make()
         if not self.kind:
+            self.must_be_readable()
+            self.must_have_no_table()
             raise Failed("no filesystem is known in it (-m makes one, where the provider is new)")
         if self.kind in EXT and not self.reads_only:
             self.check()
@@ -390,14 +403,27 @@ class Keeper:
             raise Failed(said)
         return said
 
+    def must_be_readable(self):
+        """The beginning of the data, where a filesystem is known by, can be read."""
+        try:
+            with open(self.state.nbd, "rb") as device:
+                device.read(65536)
+        except OSError:
+            raise Failed("no filesystem is known in it, and its first sectors can't be read: they were never written,"
+                         f" or are damaged ({called('after-a-power-failure')} says which)") from None
+
+    def must_have_no_table(self):
+        """It has no partitions, in which the filesystem would be."""
+        table = self.found("PTTYPE")
+        if table:
+            raise Failed(f"it has partitions ({table}), and no filesystem outside them: -n names one of them")
+
     def make(self):
         """Makes an ext4: by -m only if nobody wrote to the provider yet."""
         if "M" not in self.options:
-            table = self.found("PTTYPE")
-            if table:
-                raise Failed(f"it has partitions ({table}), and no new filesystem was made: -n names one of them")
-            is_new = not self.words["partition"] and is_zeros(os.path.join(self.words["here"], self.words["file"]))
-            if not is_new and not is_zeros(self.state.nbd):
+            self.must_have_no_table()
+            untouched = not self.words["partition"] and is_new(os.path.join(self.words["here"], self.words["file"]))
+            if not untouched and not is_zeros(self.state.nbd):
                 raise Failed("no filesystem is known in it, but it isn't new: nothing was made (-M makes one over it)")
         features = () if "K" in self.options else FOR_FUSE2FS
         status, said = self.work("making the ext4", *MAKE, *features, self.state.nbd)
@@ -446,7 +472,7 @@ class Keeper:
         self.number = mount_of(self.folder)
 
     def mount_by_kernel(self):
-        how = "loop,ro" if self.reads_only else "loop"
+        how = "loop,nosuid,nodev" + ",ro" * self.reads_only
         status, said = self.work("mounting it", "mount", "-t", self.kind, "-o", how, self.state.nbd, self.folder)
         if status:
             raise Failed(f"mount: {said}")
@@ -567,27 +593,26 @@ class Keeper:
             time.sleep(0.1)
 
 
-def leave_caller(claim, pipe):
-    """Leaves the caller's terminal, folder and open files, but for the claim. What is said goes to the pipe."""
+def leave_caller(kept, pipe):
+    """Leaves the caller's terminal, folder and open files, but for these numbers. What is said goes to the pipe."""
     os.setsid()
     os.chdir("/")
     null = os.open(os.devnull, os.O_RDWR)
     os.dup2(null, 0)
     os.dup2(null, 1)
     os.dup2(pipe, 2)
-    for number in map(int, os.listdir("/proc/self/fd")):
-        if number not in (0, 1, 2, claim):
-            with contextlib.suppress(OSError):
-                os.close(number)
+    close_others(kept)
 
 
 def keep(words, pipe):
     """The keeper, which reports to the caller until it is mounted, and writes down in the end how it went."""
     claim, state = int(words["claim"]), State(words["state"])
-    leave_caller(claim, pipe)
+    leave_caller([claim, *descriptors_of(words["key"])], pipe)
     held = os.open(state.path, os.O_RDONLY)  # what cleans /tmp leaves a folder alone that is locked
     fcntl.flock(held, fcntl.LOCK_SH)
     state.put(state.keeper, str(os.getpid()))
+    is_file = files_of(words["name"]) == [words["name"]]
+    state.put(state.of, json.dumps([words["folder"], os.path.join(words["here"] * is_file, words["name"])]))
     is_told = True
 
     def say(kind, text):
@@ -775,12 +800,33 @@ def unmount(words):
     return 0
 
 
+def show_mounts(words):
+    """Lists the mounts, and those that went wrong and whose end nobody asked for since: status 1 if there are such."""
+    top, status = Path(words["state"]), 0
+    for path in sorted(top.iterdir()) if top.is_dir() else ():
+        state = State(path)
+        with contextlib.suppress(FileNotFoundError), open(state.result, "rb") as result:
+            folder, image = json.loads(state.text(state.of) or '["?", "?"]')
+            kind, _, options = state.text(state.begun).partition(" ")
+            if not is_held(result):
+                how, status = f"went wrong: give -u {shlex.quote(folder)}", 1
+            elif os.path.exists(state.up):
+                how = kind + ", read-only" * ("r" in options) + ", by the kernel" * ("K" in options)
+            else:
+                how = "begins, or ends"
+            say(f"{folder}: {image} ({how})")
+    return status
+
+
 def main(called, what, *pairs):
     words = dict(pair.split("=", 1) for pair in pairs)
     words["called"] = called
-    sys.stderr.reconfigure(errors="surrogateescape")  # a name need be no UTF-8
+    os.environ["LC_ALL"] = "C"  # what programs say is looked at: it mustn't be in another language
+    os.environ.pop("LANGUAGE", None)
+    for stream in sys.stdout, sys.stderr:
+        stream.reconfigure(errors="surrogateescape")  # a name need be no UTF-8
     try:
-        return {"mount": mount, "unmount": unmount}[what](words)
+        return {"mount": mount, "unmount": unmount, "list": show_mounts}[what](words)
     except (Failed, OSError) as failed:
         note(f"{called}: {failed}")
         return 1

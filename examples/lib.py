@@ -16,12 +16,18 @@ import time
 
 REQUEST = 131072  # bytes that a line can read or write
 AHEAD = 4  # lines that may wait for their replies
+NEW = 1 << 20  # bytes that are zeros at the beginning of a provider, or a file, if nobody wrote to it yet
 
 CAUSES = {
     "5": "the image does not end with metadata: no provider, or longer or shorter than the provider in it",
     "6": "this version of metadata is not served",
     "7": "the metadata are damaged",
     "8": "the image has another size than the provider in it",
+    "9": "this cipher is not served",
+    "10": "this authentication is not served",
+    "11": "the cipher has no keys of so many bits",
+    "12": "no provider has sectors of this size",
+    "13": "a flag of the metadata is not served, such as that of a onetime provider",
     "14": "both key slots are empty: only a backup of the metadata helps",
     "15": "wrong passphrase or wrong key file",
     "16": "a key without a passphrase needs a key file",
@@ -52,8 +58,18 @@ class Failed(Exception):
     """A reply that refuses, or something else that ends the work."""
 
 
+def printable(text):
+    """A text as a terminal may get it: a control character, as of a file's name or a label, is shown as ?."""
+    return re.sub("[\x00-\x08\x0b-\x1f\x7f-\x9f]", "?", str(text))
+
+
 def note(text):
-    print(text, file=sys.stderr)
+    print(printable(text), file=sys.stderr)
+
+
+def say(*lines):
+    """Says lines on standard output."""
+    print(*map(printable, lines), sep="\n")
 
 
 def called(name):
@@ -82,6 +98,21 @@ def run(work, status=1):
 
 def broken_off(number, frame):
     raise KeyboardInterrupt
+
+
+def descriptors_of(key):
+    """The numbers of the open files that the words of a key name: typed passphrases, and what came by a pipe. They are
+    handed on to each program that takes the key."""
+    return [int(word) for word in re.findall(r"(?<!\S)/dev/fd/(\d+)(?!\S)", key)]
+
+
+def close_others(kept):
+    """Closes all open files but the standard streams and those of these numbers: a program in the background keeps no
+    pipe of its caller's open, which others may wait for."""
+    for number in map(int, os.listdir("/proc/self/fd")):
+        if number > 2 and number not in kept:
+            with contextlib.suppress(OSError):
+                os.close(number)
 
 
 def files_of(image):
@@ -170,9 +201,52 @@ def name_of(process):
     """How a process was called."""
     try:
         with open(f"/proc/{process}/cmdline", "rb") as file:
-            return file.read().replace(b"\0", b" ").decode(errors="replace").strip()
+            return printable(file.read().replace(b"\0", b" ").decode(errors="replace").replace("\n", "?")).strip()
     except OSError:
         return "of another user"
+
+
+def is_zeros(path, behind=0):
+    """Whether nobody wrote to a file yet, as far as its beginning tells, but for so many bytes at its end."""
+    with open(path, "rb") as file:
+        size = file.seek(0, os.SEEK_END) - behind
+        file.seek(0)
+        return not file.read(max(min(size, NEW), 0)).strip(b"\0")
+
+
+def is_new(file):
+    """Whether nobody wrote yet to the data of a provider that begins in this file: its metadata are at the end."""
+    return is_zeros(file, 512)
+
+
+class Identity:
+    """Which file a name leads to now, and how long it is."""
+
+    def __init__(self, name):
+        self.name = name
+        try:
+            state = os.stat(name)
+        except OSError:
+            self.file, self.size = None, 0
+        else:
+            self.file, self.size = (state.st_dev, state.st_ino), state.st_size
+
+    def became(self):
+        """What became of it since; nothing if it is the same file, and no shorter."""
+        now = Identity(self.name)
+        if now.file != self.file:
+            return f"'{self.name}' was removed or replaced meanwhile: it doesn't have what was written"
+        return f"'{self.name}' was made shorter meanwhile" * (now.size < self.size)
+
+
+def kind_of(name, **how):
+    """What blkid(8) says that a file has, such as ext4 or gpt; nothing where it knows nothing, or isn't there."""
+    with contextlib.suppress(FileNotFoundError):
+        said = subprocess.run(["blkid", "-p", "-o", "export", name], stdout=subprocess.PIPE,
+                              stderr=subprocess.DEVNULL, check=False, **how).stdout.decode(errors="replace")
+        facts = dict(row.split("=", 1) for row in said.splitlines() if "=" in row)
+        return facts.get("TYPE") or facts.get("PTTYPE") or ""
+    return ""
 
 
 def length_of(path):
@@ -204,9 +278,11 @@ def is_tagged(fields):
 
 def sizes_of(fields):
     """The bytes of a logical sector of a provider with these metadata, and how many sectors there are."""
-    width = int(fields["sectorsize"])
+    width, whole = int(fields["sectorsize"]), int(fields["provsize"])
+    if width < 512 or whole < 1024:
+        return width, 0  # nobody can attach such a provider
     units = (width - 1) // TAGGED.get(fields["aalgo"], 480) + 1 if is_tagged(fields) else width // 512
-    return width, (int(fields["provsize"]) - 512) // (512 * units)
+    return width, (whole - 512) // (512 * units)
 
 
 def sizes_by_dump(geli, image):
@@ -244,7 +320,7 @@ class Session:
         self.image = image
         self.files = files_of(image)
         self.script = subprocess.Popen([geli, "script", image], stdin=subprocess.PIPE, stdout=subprocess.PIPE,
-                                       bufsize=1 << 20)
+                                       bufsize=1 << 20, close_fds=False)  # a passphrase may be an open file
         for pipe in self.script.stdin, self.script.stdout:
             with contextlib.suppress(OSError, AttributeError):  # python3 has its name from 3.10 on
                 fcntl.fcntl(pipe, fcntl.F_SETPIPE_SZ, 1 << 20)  # a whole line and more
@@ -385,6 +461,26 @@ class Session:
         if line.startswith("error ") and not line.startswith("error 25 "):
             raise Failed(f"read of sector {first}: {told(line, self.files, self.script.pid)}")
         return line.startswith("ok ")
+
+    def read_or_zeros(self, first, count):
+        """The bytes of so many sectors from the first on; zeros if they can't be read."""
+        return b"".join(self.read_pieces(first, count)) if self.can_read(first, count) else bytes(count * self.width)
+
+    def beginning(self):
+        """The first MiB of the data, with zeros in place of each sector that can't be read."""
+        found = b""
+        for first, some in self.steps(0):
+            if len(found) >= NEW:
+                break
+            step = some if self.can_read(first, some) else 1
+            found += b"".join(self.read_or_zeros(at, step) for at in range(first, first + some, step))
+        return found[:NEW]
+
+    def must_hold(self, source):
+        """There is room for all of a file."""
+        size, room = length_of(source), self.width * self.sectors
+        if size > room:
+            raise Failed(f"{source} has {size} bytes, the provider has room for {room}: nothing was written")
 
     def read_pieces(self, first, count):
         """The bytes of so many sectors from the first on, piece by piece."""

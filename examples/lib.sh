@@ -11,8 +11,15 @@ program=${GELI_CALLED_AS:-${0##*/}} # as another name starts it
 installed=${GELI_CALLED_AS:+yes}
 unset GELI_CALLED_AS
 umask 077 # every file that is made here is the caller's alone
+ulimit -c 0 # a core would have keys
 
-note() { printf '%s\n' "$*" >&2; }
+# shown TEXT: a text as a terminal may get it: a control character, as of a file's name, is shown as ?. Newlines stay.
+shown() {
+    local LC_ALL=C text
+    text=${1//[$'\001'-$'\010'$'\013'-$'\037'$'\177']/?}
+    printf '%s\n' "${text//$'\302'[$'\200'-$'\237']/?}" # those of UTF-8
+}
+note() { shown "$*" >&2; }
 fail() {
     note "$program: $*"
     exit 1
@@ -30,31 +37,46 @@ esac
 
 # A script that may stop halfway says here what it leaves then, and how to go on.
 left() { :; }
-private=''
+private='' secrets=()
 at_end() {
-    local status=$?
+    local status=$? descriptor
     if [ "$status" != 0 ]; then left; fi
+    for descriptor in ${secrets[@]+"${secrets[@]}"}; do : >|"/dev/fd/$descriptor"; done
     if [ -n "$private" ]; then rm -rf -- "$private"; fi
 }
 trap at_end EXIT
 trap 'exit 130' INT TERM HUP
 
-# private_folder [FILE]: a folder for passphrases, in memory if the system has such a place. It goes away when the
-# script ends. FILE gets its name before it is there, so that who comes after a kill can remove it.
-# shellcheck disable=SC2120 # one script gives it
-private_folder() {
-    local top
-    [ -z "$private" ] || return 0
-    for top in "${XDG_RUNTIME_DIR:-}" /dev/shm "${TMPDIR:-/tmp}"; do
-        # Its name is part of words of a script.
-        if [ -n "$top" ] && [ -d "$top" ] && [ -w "$top" ] && [[ $top != *[[:space:]:]* ]]; then
-            private=$(mktemp -u "$top/geli.XXXXXXXXXX")
-            [ -z "${1:-}" ] || printf '%s\n' "$private" >"$1"
-            mkdir -- "$private" || { private='' && fail "no private folder in $top"; }
-            return
-        fi
+# Sets `memory` to a folder in memory, if the system has such a place. Its name is part of words of a script.
+find_memory() {
+    for memory in "${XDG_RUNTIME_DIR:-}" /dev/shm "${TMPDIR:-/tmp}"; do
+        if [ -d "$memory" ] && [ -w "$memory" ] && [[ $memory != *[[:space:]:]* ]]; then return; fi
     done
     fail 'there is no folder for a passphrase: TMPDIR names another, without blanks'
+}
+
+# private_folder [FILE]: a folder in memory, which goes away when the script ends. FILE gets its name before it is
+# there, so that who comes after a kill can remove it. No key or passphrase is put there: see secret_file.
+# shellcheck disable=SC2120 # one script gives it
+private_folder() {
+    [ -z "$private" ] || return 0
+    find_memory
+    private=$(mktemp -u "$memory/geli.XXXXXXXXXX")
+    [ -z "${1:-}" ] || printf '%s\n' "$private" >"$1"
+    mkdir -- "$private" || { private='' && fail "no private folder in $memory"; }
+}
+
+# secret_file: sets `secret` to the name /dev/fd/N of a new, empty file in memory that is in no folder. The programs
+# that are started here have it too, and can open it again and again. Nothing of it is left once they all have ended,
+# however they end, by SIGKILL too.
+secret_file() {
+    local name descriptor
+    find_memory
+    name=$(mktemp "$memory/geli.XXXXXXXXXX") || fail "no file for a passphrase can be made in $memory"
+    exec {descriptor}<>"$name"
+    rm -f -- "$name"
+    secrets+=("$descriptor")
+    secret=/dev/fd/$descriptor
 }
 
 # sure_of NAME WHAT: goes on only if somebody types the name at the terminal.
@@ -67,13 +89,21 @@ sure_of() {
 
 # If geli makes the file, its name in a command can't be a link as in one_word.
 is_text() {
-    python3 -c 'import sys; sys.argv[1].encode()' "$1" 2>/dev/null || fail "the name '$1' is no UTF-8: use another"
+    python3 -I -c 'import sys; sys.argv[1].encode()' "$1" 2>/dev/null || fail "the name '$1' is no UTF-8: use another"
+}
+
+# usable NAME: refuses an empty name, and one from whose end `$(...)` would take a newline: that is another file.
+usable() {
+    case $1 in
+        '') fail 'a file name is empty' ;;
+        *$'\n') fail "the name of a file ends in a newline, and is refused: $1" ;;
+    esac
 }
 
 # The name of a file, so that it is no option, and no layer.
 plain() {
+    usable "$1"
     case $1 in
-        '') fail 'a file name is empty' ;;
         */*) printf '%s' "$1" ;;
         *) printf './%s' "$1" ;;
     esac
@@ -84,8 +114,8 @@ plain() {
 links=0
 one_word() {
     local LC_ALL=C
+    usable "$1"
     case $1 in
-        '') fail 'a file name is empty' ;;
         *[!A-Za-z0-9._/:,+=@%~^-]*)
             private_folder
             word=$private/name$((links += 1))
@@ -118,6 +148,7 @@ image_of() {
 
 # A file, or a block device, that can be read.
 readable() {
+    [ -e "$1" ] || fail "there is no file '$1'"
     if [ ! -r "$1" ] || { [ ! -f "$1" ] && [ ! -b "$1" ]; }; then
         fail "'$1' is no file that can be read"
     fi
@@ -170,7 +201,9 @@ need() {
     local name package
     for name in "$GELI" python3 "$@"; do
         if command -v "$name" >/dev/null; then
-            # The launcher of a clone builds the program now, so that this can be said, and not while it mounts.
+            # The launcher of a clone builds the program now, so that this can be said: not while it mounts, nor once a
+            # passphrase was typed.
+            [ "$name" != "$GELI" ] || "$name" list </dev/null >/dev/null || fail "'$name' doesn't run"
             [ "$name" != "$GELI_NBD" ] || "$name" --version </dev/null >/dev/null || fail "'$name' doesn't run"
             continue
         fi
@@ -181,6 +214,7 @@ need() {
             fusermount3) package='Debian: fuse3' ;;
             fuse2fs) package='Debian: fuse2fs' ;;
             mke2fs) package='Debian: e2fsprogs, in /sbin' ;;
+            wipefs | losetup) package='Debian: util-linux, in /sbin' ;;
             grub-mount) package='Debian: grub-common' ;;
             "$GELI") package='GELI names the geli to use' ;;
             "$GELI_NBD") package='GELI_NBD names the geli-nbd to use' ;;
@@ -200,7 +234,39 @@ nbdcopy_over() {
 
 # The refusal in `reply`, and its cause as far as it can be seen at the image.
 reply=''
-told() { python3 -B "$library/lib.py" "${reply##*$'\n'}" "$image"; }
+told() { python3 -I -B "$library/lib.py" "${reply##*$'\n'}" "$image"; }
+
+# refused IMAGE: prints the refusal of metadata that nobody can attach, by any key, and answers 1. No key is derived for
+# that: a key file that is any file is tried, without a passphrase.
+refused() {
+    local answer
+    answer=$("$GELI" attach -C -p -k "$library/refusals.txt" "$1") || :
+    [[ ! $answer =~ ^error\ ([5-9]|1[0-3])\  ]] || { printf '%s\n' "$answer" && return 1; }
+}
+
+LARGEST_SECTOR=65536 # bytes, of which a backup that FreeBSD made has as many as a sector of its disk
+# is_backup FILE: whether a file begins as a backup of metadata does, and isn't too long for one.
+is_backup() {
+    [ -f "$1" ] && (($(stat -Lc %s -- "$1") <= LARGEST_SECTOR)) && cmp -s -n 9 -- "$1" <(printf 'GEOM::ELI')
+}
+
+# image_of_backup FILE: sets `trial` to an image of zeros that ends with these metadata, as large as they say: it takes
+# no space. `reply` is what geli prints of them; the status is 1 if that is a refusal.
+image_of_backup() {
+    local bytes
+    private_folder
+    trial=$private/trial
+    { head -c 512 /dev/zero && head -c 511 -- "$1"; } >"$trial"
+    truncate -s 1024 -- "$trial"
+    reply=$("$GELI" dump "$trial") || return 1
+    bytes=$(sed -n 's/^provsize: //p' <<<"$reply")
+    if [[ $bytes =~ ^[0-9]{4,15}$ ]] && ((bytes >= 1024)); then
+        tail -c 512 -- "$trial" >"$trial.last"
+        : >"$trial"
+        truncate -s $((bytes - 512)) -- "$trial" || fail "no image of $bytes bytes can be made in '$private'"
+        cat -- "$trial.last" >>"$trial"
+    fi
+}
 
 # slow WHAT: says at a terminal what may take a while now.
 slow() { if [ -t 2 ]; then note "$1 ..."; fi; }
@@ -209,20 +275,21 @@ has_terminal() { { : </dev/tty; } 2>/dev/null; }
 
 LARGEST_KEY_FILE=1048576 # bytes, as for geli itself
 # stays NAME: sets `stays` to a name under which the file can be read again and again, by other processes too. A pipe,
-# as of `-j <(pass show disk)`, is copied into the private folder, which is memory: a device, or what has no end, isn't.
-copies=0
+# as of `-j <(pass show disk)`, is copied into memory: a device, or what has no end, isn't.
 stays() {
     if [ ! -r "$1" ] || [ -d "$1" ]; then
         [ "$1" != - ] || fail "the file '-' can't be read: standard input is /dev/stdin"
+        [ -e "$1" ] || fail "there is no file '$1'"
         fail "the file '$1' can't be read"
     fi
     [ ! -b "$1" ] || fail "'$1' is a disk, and no key file or passphrase file"
     stays=$1
+    if [ -f "$1" ] && (($(stat -Lc '0%a & 6' -- "$1"))); then note "note: everybody may use the file '$1'"; fi
     if [ ! -f "$1" ] || [[ $1 == /dev/* || $1 == /proc/* ]]; then
-        private_folder
-        stays=$private/copy$((copies += 1))
+        secret_file
+        stays=$secret
         head -c $((LARGEST_KEY_FILE + 1)) -- "$1" >"$stays" || fail "the file '$1' can't be read"
-        (($(stat -c %s -- "$stays") <= LARGEST_KEY_FILE)) || fail "'$1' has more than 1 MiB: no key file is longer"
+        (($(stat -Lc %s -- "$stays") <= LARGEST_KEY_FILE)) || fail "'$1' has more than 1 MiB: no key file is longer"
     fi
 }
 
@@ -238,19 +305,22 @@ new_passphrase() {
     esac
 }
 
-# ask_passphrase FILE WHAT [twice]: asks at the terminal and writes the answer to FILE as its first line.
+# ask_passphrase WHAT [twice]: asks at the terminal, and sets `secret` to a file whose first line the answer is.
 ask_passphrase() {
     local first second
-    has_terminal || fail "no terminal to ask for the $2: name a file whose first line it is, by -j (a new one: -J)"
-    IFS= read -r -s -p "$2: " first </dev/tty || fail 'nothing was typed'
+    has_terminal || fail "no terminal to ask for the $1: name a file whose first line it is, by -j (a new one: -J)"
+    trap '' TSTP # one that was stopped here would go on with what is typed shown
+    IFS= read -r -s -p "$1: " first </dev/tty || fail 'nothing was typed'
     printf '\n' >/dev/tty
-    [ -n "$first" ] || fail "the $2 is empty"
-    if [ "${3:-}" = twice ]; then
-        IFS= read -r -s -p "$2, again: " second </dev/tty || fail 'nothing was typed'
+    [ -n "$first" ] || fail "the $1 is empty"
+    if [ "${2:-}" = twice ]; then
+        IFS= read -r -s -p "$1, again: " second </dev/tty || fail 'nothing was typed'
         printf '\n' >/dev/tty
         [ "$first" = "$second" ] || fail 'the two differ, nothing was done'
     fi
-    printf '%s\n' "$first" >"$1"
+    trap - TSTP
+    secret_file
+    printf '%s\n' "$first" >"$secret"
 }
 
 # The options -k, -j and -p of a key: `key_option LETTER VALUE` for each, then `key_ready`.
@@ -268,12 +338,25 @@ key_option() {
 }
 key_ready() {
     if [ -z "$has_passphrase" ]; then
-        private_folder
-        ask_passphrase "$private/old" 'passphrase'
-        key+=(-j "$private/old")
+        ask_passphrase passphrase
+        key+=(-j "$secret")
     fi
+    tell_iterations
 }
 
-# The python3 program on standard input, with these words and lib.py. It has no name in a folder, so that python3 looks
-# for no module in the caller's folder.
-python_part() { GELI_INSTALLED=$installed PYTHONPATH=$library python3 -B /dev/stdin "$program" "$GELI" "$@"; }
+MANY=50000000 # iterations, of which each try of a key takes about a minute
+# A provider of somebody else may ask for as many as there can be.
+tell_iterations() {
+    local iterations
+    iterations=$("$GELI" dump "$image" | sed -n 's/^iterations: \([0-9]*\)$/\1/p') || :
+    ((${iterations:-0} < MANY)) || note "note: a key of '$image' goes through $iterations iterations of PBKDF2:" \
+        "each try may take $((iterations / MANY)) minutes and more"
+}
+
+# The python3 program on standard input, with these words and lib.py. As everywhere here, -I keeps python3 from looking
+# for modules in the caller's folder.
+python_part() {
+    GELI_INSTALLED=$installed python3 -I -B -c \
+        'import sys; sys.path.insert(0, sys.argv.pop(1)); exec(compile(sys.stdin.read(), f"<{sys.argv[1]}>", "exec"))' \
+        "$library" "$program" "$GELI" "$@"
+}

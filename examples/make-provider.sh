@@ -12,7 +12,9 @@
 # IMAGE is a sparse file: it takes space on the disk as sectors are written, so a disk that is full later makes writes
 # fail. With -f it takes all of its space now. Deleting files in the provider later frees no space on the disk.
 #
-# -d: over a disk, such as /dev/sdb, or over an existing file. All that is on it is lost, so its name must be typed.
+# -d: over a disk, such as /dev/sdb, or over an existing file. All that is on it is lost, so its name must be typed. Its
+# first MiB becomes zeros, and the marks of what was on it are removed (wipefs), so that no program finds that again.
+# `geli init` writes the last 512 bytes alone: another program may find what was there, and write to it.
 #
 # The provider has AES-XTS with keys of 256 bits, sectors of 4096 bytes and 1,000,000 iterations. With -a its
 # sectors are authenticated by HMAC/SHA256 and each of them is written once, with zeros, since a sector of such a
@@ -32,10 +34,14 @@ usage() {
 
 # over_disk NAME: sets `size` to the bytes of a disk, or a file, if nobody else uses it and the user confirms its loss.
 over_disk() {
+    local loop=''
     if [ ! -b "$1" ] && [ ! -f "$1" ]; then fail "'$1' is no disk"; fi
     [ -w "$1" ] || fail "'$1' can't be written"
-    size=$(python3 -c 'import os, sys; print(os.lseek(os.open(sys.argv[1], os.O_RDWR | os.O_EXCL), 0, os.SEEK_END))' \
-        "$1" 2>/dev/null) || fail "nothing was changed: '$1' is mounted, or otherwise in use"
+    size=$(python3 -I -c \
+        'import os, sys; print(os.lseek(os.open(sys.argv[1], os.O_RDWR | os.O_EXCL), 0, os.SEEK_END))' "$1" 2>/dev/null) || fail "nothing was changed: '$1' is mounted, or otherwise in use"
+    # That says nothing of a file.
+    if [ -f "$1" ]; then loop=$(losetup -n -O NAME -j "$1") || loop=''; fi
+    [ -z "$loop" ] || fail "nothing was changed: '$1' is in use by a loop device: $loop"
     note "$1: all that is on it, $size bytes, will be lost"
     sure_of "$1" 'make a provider over it'
 }
@@ -58,18 +64,24 @@ if [ -z "$disk" ]; then
     shift
 fi
 [[ $# -eq 3 && ! ( -n $disk && -n $allocated ) ]] || usage
-keyfile=$(plain "$2") backup=$(plain "$3")
+keyfile=$(plain "$2")
+backup=$(plain "$3")
 
 image_of "$1"
 [ "${files[*]}" = "$1" ] || fail "'$1' asks for a layer over a file: make the file, or name it ./$1"
 [[ $iterations =~ ^[1-9][0-9]{0,9}$ ]] || fail "'$iterations' is no number of iterations"
+PATH=$PATH:/usr/sbin:/sbin # wipefs and losetup
 need truncate fallocate df head
+[ -z "$disk" ] || need wipefs losetup
 name=$(plain "$1")
 absent "$backup"
 is_text "$backup"
 for other in "$keyfile" "$name"; do
     [ "$(realpath -m -- "$other")" != "$(realpath -m -- "$backup")" ] || fail "BACKUP and '$other' are one file"
 done
+if [ "$keyfile" -ef "$name" ] || [ "$(realpath -m -- "$keyfile")" = "$(realpath -m -- "$name")" ]; then
+    fail "KEYFILE and '$name' are one file"
+fi
 if [ -n "$disk" ]; then over_disk "$1"; else absent "$name"; fi
 ((size >= 65536)) || fail 'the size must be 65536 at least'
 [ -n "$disk" ] || ((size % 4096 == 0)) || fail 'the size must be a multiple of 4096'
@@ -78,16 +90,17 @@ if [ -n "$passfile" ]; then
     one_word "$stays"
     passfile=$word
 else
-    private_folder
-    passfile=$private/new
-    ask_passphrase "$passfile" 'new passphrase' twice
+    ask_passphrase 'new passphrase' twice
+    passfile=$secret
 fi
 
 if [ -e "$keyfile" ]; then
     [ -s "$keyfile" ] || [ ! -f "$keyfile" ] || fail "the key file '$keyfile' is empty"
     note "key file: $keyfile, as it stands"
 else
+    set -C # it isn't written to what another has made there meanwhile, nor through a link
     { head -c 64 /dev/urandom >"$keyfile"; } 2>/dev/null || fail "the key file '$keyfile' can't be made"
+    set +C
     note "key file: $keyfile, new, of 64 random bytes"
 fi
 stays "$keyfile"
@@ -95,14 +108,21 @@ one_word "$stays"
 newkey=$word
 sync # the key file must be on the disk before anything is locked by it
 
-left() {
-    note "'$name' is only half made. Remove it, and '$backup' if it is there, and give this again: '$keyfile' can stay"
-}
+half="'$name' is only half made. Remove it, and"
+[ -z "$disk" ] || half="'$name' may have lost what was on it, and has no provider yet. Remove"
+left() { note "$half '$backup' if it is there, and give this again: '$keyfile' can stay"; }
 if [ -z "$disk" ]; then
     set -C # `>` doesn't overwrite
     : >"$name" || fail "'$name' can't be made"
     set +C
     lengthen "$name" "$size" "$allocated"
+fi
+# What was there must not be found again: where a LUKS2 was, `cryptsetup isLuks` alone would write over the new data.
+# The first MiB becomes zeros, by which mount-provider.sh -m knows that it is new.
+if [ -n "$disk" ]; then
+    wipefs -aq -- "$name" || fail "what was on '$name' can't be removed"
+    dd if=/dev/zero of="$name" bs=65536 count=$((size < 1048576 ? size / 65536 : 16)) conv=notrunc status=none ||
+        fail "'$name' can't be written"
 fi
 slow 'making the key, and trying it'
 if ! reply=$("$GELI" init "${auth[@]}" -e AES-XTS -l 256 -s 4096 -i "$iterations" -K "$newkey" -J "$passfile" \

@@ -3,6 +3,7 @@
 #
 #   mount-provider.sh [-mMrcgK] [-n PARTITION] [-p] [-j PASSFILE] [-k KEYFILE]... IMAGE FOLDER
 #   mount-provider.sh -u [-f] FOLDER
+#   mount-provider.sh -l
 #
 # An ext2, ext3 or ext4 is mounted by fuse2fs; any other filesystem by grub-mount, read-only, such as FreeBSD's UFS.
 # -m: makes an ext4 first, if the provider is new. -M: makes one over whatever is in it, and asks before.
@@ -15,7 +16,8 @@
 # It stays mounted when the terminal is closed. -u unmounts it, and exits with 0 only if all that was written meanwhile
 # is in the provider and flushed, and no write was refused. umount(8) unmounts it too, without that exit status. If
 # another mount namespace has the mount too, -u waits for it; with -f it ends it there. The state of the mounts is kept
-# in /tmp/geli-mounts-UID (GELI_MOUNTS names another folder).
+# in /tmp/geli-mounts-UID (GELI_MOUNTS names another folder). -l lists them, and those that went wrong and for which -u
+# wasn't given yet; if there are such, with status 1.
 #
 # fuse2fs 1.47 has its limits: `sync` does nothing there, and on a full disk cp may exit with 0, but -u then with 1. It
 # loses blocks of files with extents whose space was allocated ahead, so -m makes an ext4 without extents; its largest
@@ -35,7 +37,7 @@ set -euo pipefail
 
 usage() {
     note "usage: $program [-mMrcgK] [-n PARTITION] [-p] [-j PASSFILE] [-k KEYFILE]... IMAGE FOLDER" \
-        "or $program -u [-f] FOLDER"
+        "or $program -u [-f] FOLDER or $program -l"
     exit 2
 }
 
@@ -43,7 +45,7 @@ usage() {
 absolute() { realpath -e -- "$1" 2>/dev/null || realpath -ms -- "$1"; }
 
 # In /tmp anybody can make a folder, or a link, of this name; nobody can replace one that is another's.
-is_own() { [ "$(stat -c %u:%F -- "$mounts")" = "$EUID:directory" ] || fail "'$mounts' is another user's"; }
+is_own() { [[ -d $mounts && ! -L $mounts && -O $mounts ]] || fail "'$mounts' is another user's"; }
 
 # Whether the options exclude each other, or the user may not.
 options_agree() {
@@ -54,18 +56,18 @@ options_agree() {
 # keeper WORD...: goes on in python3. No signal ends that before it can hear them.
 keeper() {
     trap '' INT TERM HUP
-    exec env --block-signal=INT,TERM,HUP python3 -B "$library/keep_mount.py" "$program" "$@"
+    GELI_INSTALLED=$installed exec env --block-signal=INT,TERM,HUP python3 -I -B "$library/keep_mount.py" "$program" "$@"
 }
 
 # Says by how much the disk could fall short, of an image that takes space as it is written.
 tell_shortage() {
-    local -i lacks=0 room
+    local -i lacks=0 whole room
     local file
     for file in "${files[@]}"; do
         [ ! -f "$file" ] || lacks+=$(stat -Lc '%s-%b*%B' -- "$file")
     done
-    room=$(df --output=avail -B1 -- "${files[0]}" | tail -n 1)
-    ((lacks <= room)) ||
+    read -r whole room < <(df --output=size,avail -B1 -- "${files[0]}" | tail -n 1)
+    ((whole == 0 || lacks <= room)) || # nbdfuse's file has no disk
         note "note: '$1' may come to take $lacks bytes more, and its disk has room for $room: writes may be refused"
 }
 
@@ -110,10 +112,11 @@ claim_folder() {
     printf '%s\n' "$$" >"$state/keeper"
 }
 
-options='' partition='' ends=''
-while getopts mMrcgKfun:pj:k: option; do
+options='' partition='' ends='' lists=''
+while getopts lmMrcgKfun:pj:k: option; do
     case $option in
         u) ends=yes ;;
+        l) lists=yes ;;
         n) partition=$OPTARG ;;
         p | j | k) key_option "$option" "${OPTARG:-}" ;;
         [mMrcgKf]) options+=$option ;;
@@ -121,12 +124,23 @@ while getopts mMrcgKfun:pj:k: option; do
     esac
 done
 shift $((OPTIND - 1))
-if [ -n "$ends" ]; then [ $# -eq 1 ] || usage; else [[ $# -eq 2 && $options != *f* ]] || usage; fi
+if [ -n "$lists" ]; then
+    [ $# -eq 0 ] || usage
+elif [ -n "$ends" ]; then
+    [ $# -eq 1 ] || usage
+else
+    [[ $# -eq 2 && $options != *f* ]] || usage
+fi
 PATH=$PATH:/usr/sbin:/sbin # blkid and mke2fs
+usable "${!#}"
 folder=$(absolute "${!#}")
 # Of everybody's places the one that is the same in each session, and stays when one ends.
 mounts=$(realpath -ms -- "${GELI_MOUNTS:-/tmp/geli-mounts-$(id -u)}")
 state=$mounts/$(printf '%s' "$folder" | sha256sum | cut -c1-16)
+if [ -n "$lists" ]; then
+    [ ! -e "$mounts" ] || is_own
+    keeper list state="$mounts"
+fi
 if [ -n "$ends" ]; then
     [ ! -d "$state" ] || is_own
     keeper unmount state="$state" folder="$folder" options="$options"

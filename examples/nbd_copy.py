@@ -36,7 +36,7 @@ class Copy:
             self.start(["nbdcopy", *(uri if word == "URI" else word for word in words)], subprocess.DEVNULL, **streams)
             client = self.accepted(place)
         with client:
-            self.start(command, subprocess.PIPE, stdin=client, stdout=client)
+            self.start(command, subprocess.PIPE, stdin=client, stdout=client, close_fds=False)
 
     def accepted(self, place):
         """The connection of nbdcopy, unless that ends before."""

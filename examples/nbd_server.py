@@ -17,21 +17,25 @@ tells whether any write or flush was refused. How many of those of a socket were
 """
 import calendar
 import contextlib
+import fcntl
 import mmap
 import os
 import re
 import resource
 import signal
 import socket
+import struct
 import subprocess
 import sys
 import time
 from pathlib import Path
 
-from lib import Failed, Refusals, files_of, note, told
+sys.path.insert(0, os.path.dirname(os.path.abspath(__file__)))  # which python3 -I leaves out
+from lib import Failed, Identity, Refusals, close_others, descriptors_of, files_of, note, told
 
 SIGNALS = {signal.SIGTERM, signal.SIGINT, signal.SIGHUP}
 CONNECTED = "03"  # of a row of /proc/net/unix
+EXPORT_NAME = 1  # the option of NBD that asks for the data
 LOOK = 0.5  # seconds after which it is looked again whether something was refused
 AHEAD = 1 << 26  # bytes that the log may have that weren't looked at yet
 REFUSAL = re.compile(rb"\.\.\.(?:Write|Zero|Flush) id=\d+ return=-1 ")  # of a line of the log
@@ -59,7 +63,9 @@ def how_it_ended(status, said, refusals):
 def put(file, text):
     """Writes a file as a whole: who sees it sees all of it."""
     new = Path(f"{file}.new")
-    new.write_text(text + "\n", errors="surrogateescape")
+    new.unlink(missing_ok=True)
+    with open(new, "x", errors="surrogateescape") as lines:  # no link of another's
+        lines.write(text + "\n")
     new.replace(file)
 
 
@@ -124,13 +130,18 @@ class Server:
 
     def __init__(self, words, command):
         self.words, self.command = words, command
+        self.secrets = descriptors_of(" ".join(command[:-1]))
         self.refusals = Refusals(list(map(os.path.realpath, files_of(command[-1]))))  # the folder is another later
-        self.geli = self.nbdkit = self.log = None
+        self.were = list(map(Identity, self.refusals.files))
+        self.geli = self.nbdkit = self.log = self.said = None
 
     def start_geli(self, **streams):
-        # What waits for the end of all programs of a mount, by a lock that they inherit, waits for geli-nbd too.
-        self.geli = subprocess.Popen(self.command, stderr=subprocess.PIPE, preexec_fn=in_child,
-                                     close_fds="socket" in self.words, **streams)
+        if "socket" in self.words:
+            streams["pass_fds"] = self.secrets
+        else:
+            # What waits for the end of all programs of a mount, by a lock that they inherit, waits for geli-nbd too.
+            streams["close_fds"] = False
+        self.geli = subprocess.Popen(self.command, stderr=subprocess.PIPE, preexec_fn=in_child, **streams)
 
     def start_behind_nbdkit(self, *options, ends_with=None):
         """Starts geli-nbd on a socket, waits until it has attached the provider, and starts nbdkit over it. That logs
@@ -152,12 +163,37 @@ class Server:
                 words.append(f"partition={self.words['partition']}")
             # Its clients would be refused after a SIGTERM.
             start = self.log.in_child if self.log else in_child
-            self.nbdkit = subprocess.Popen(["nbdkit", *options, "nbd", *words], preexec_fn=start, pass_fds=kept)
+            # In the background it keeps no terminal or pipe of the caller's open, which others may wait for.
+            if ends_with:
+                self.said = os.memfd_create("said")
+                fcntl.fcntl(self.said, fcntl.F_SETFL, os.O_APPEND)
+            self.nbdkit = subprocess.Popen(["nbdkit", *options, "nbd", *words], preexec_fn=start, pass_fds=kept,
+                                           stderr=self.said)
+
+    def lets_in(self, path):
+        """Whether nbdkit serves at the socket: a client asks for the data, and hears how many bytes they are."""
+        while self.nbdkit and self.nbdkit.poll() is None:
+            with contextlib.suppress(FileNotFoundError, ConnectionRefusedError):  # it isn't listened at yet
+                return self.answers(path)
+            time.sleep(0.02)
+        return False
+
+    @staticmethod
+    def answers(path):
+        with socket.socket(socket.AF_UNIX) as client:
+            client.connect(path)
+            with contextlib.suppress(OSError):  # it may be reset
+                client.recv(18, socket.MSG_WAITALL)
+                client.sendall(struct.pack(">I8sII", 3, b"IHAVEOPT", EXPORT_NAME, 0))
+                return len(client.recv(10, socket.MSG_WAITALL)) == 10
+        return False
 
     def look(self):
         """Looks whether something was refused."""
         if self.log:
             self.log.read(self.nbdkit.pid)
+        if self.said is not None:
+            os.ftruncate(self.said, 0)  # of clients that it refused
 
     def wait(self):
         """Waits for the end of both, and writes down how it went; what it wrote down."""
@@ -166,6 +202,8 @@ class Server:
             self.look()
         said = self.geli.stderr.read().decode(errors="replace").strip()
         text = how_it_ended(self.geli.wait(), said, self.refusals)
+        if text == "ok":
+            text = next(filter(None, (was.became() for was in self.were)), "ok")
         put(self.words["ended"], text)
         return text
 
@@ -222,15 +260,12 @@ def serve_socket(server):
         return 0
     signal.pthread_sigmask(signal.SIG_BLOCK, SIGNALS | {signal.SIGCHLD})
     words, path = server.words, server.words["socket"]
+    close_others([writes, *server.secrets])
     ends_with, _ = os.pipe()  # if this process is killed
     server.start_behind_nbdkit("-f", "-U", path, ends_with=ends_with)
     os.close(ends_with)
-    while server.nbdkit and server.nbdkit.poll() is None and not os.path.exists(path):
-        time.sleep(0.02)
-    if not server.nbdkit or server.nbdkit.poll() is not None:
-        text = server.wait()
-        os.unlink(words["ended"])
-        os.write(writes, (text if text != "ok" else "nbdkit couldn't serve it").encode(errors="replace"))
+    if not server.lets_in(path):
+        os.write(writes, give_up(server, path).encode(errors="replace"))
         return 1
     put(words["pid"], str(os.getpid()))
     os.write(writes, b"up")
@@ -242,6 +277,17 @@ def serve_socket(server):
     wait_for_end(server, Socket(path))
     server.wait()
     return 0
+
+
+def give_up(server, path):
+    """Ends a server that serves nobody; what it says of that."""
+    said = os.pread(server.said, 4096, 0).decode(errors="replace").strip() if server.said is not None else ""
+    if server.nbdkit:
+        server.nbdkit.kill()
+    text = server.wait()
+    for name in server.words["ended"], path:
+        Path(name).unlink(missing_ok=True)
+    return text if text != "ok" else said or "nbdkit couldn't serve it"
 
 
 def wait_for_end(server, place):

@@ -51,7 +51,7 @@ python_part "$image" "$place" "${key[*]}" "$restart" "$minutes" "$1" <<'PY'
 import os
 import sys
 import time
-from lib import Failed, Progress, Session, WHY_UNREADABLE, fields_of, ranges, run, tell_unreadable
+from lib import Failed, Progress, Session, WHY_UNREADABLE, fields_of, ranges, run, say, tell_unreadable
 
 
 def beginning(place, restart, sectors):
@@ -65,8 +65,7 @@ def beginning(place, restart, sectors):
 
 def report(image, first, at, sectors, bad):
     lost = sum(end - begin for begin, end in bad)
-    print(f"{image}: {at - first} of {sectors} sectors were looked at, from sector {first} on,",
-          f"{lost} of them unreadable")
+    say(f"{image}: {at - first} of {sectors} sectors were looked at, from sector {first} on, {lost} of them unreadable")
     tell_unreadable(bad)
     if bad:
         print(WHY_UNREADABLE)

@@ -56,6 +56,7 @@ end_server() {
     local socket=$1 pid said=''
     local -i turns=0
     [ -r "$socket.pid" ] || fail "there is no '$socket.pid': no server runs behind '$socket'"
+    [[ -O $socket.pid && ! -L $socket.pid ]] || fail "'$socket.pid' is another user's"
     pid=$(<"$socket.pid")
     ! is_server "$pid" || kill "$pid"
     while is_server "$pid"; do
@@ -86,10 +87,12 @@ done
 shift $((OPTIND - 1))
 if [ -n "$ends" ]; then
     [ $# -eq 1 ] || usage
+    usable "$1"
     end_server "$1"
 fi
 [ $# -eq 2 ] || usage
 image_of "$1"
+usable "$2"
 socket=$(realpath -m -- "$2")
 need "$GELI_NBD" nbdkit setsid
 image_is_there ''
@@ -97,7 +100,7 @@ for file in "${files[@]}"; do
     [ ${#readonly[@]} -gt 0 ] || [ -w "$file" ] || fail "'$file' can't be written: give -r"
 done
 for name in "$socket" "$socket.pid" "$socket.ended" "$socket.clients"; do
-    [ ! -e "$name" ] || fail "'$name' is there already: is a server running?"
+    if [ -e "$name" ] || [ -L "$name" ]; then fail "'$name' is there already: is a server running?"; fi
 done
 [ -d "${socket%/*}/" ] || fail "there is no folder '${socket%/*}'"
 is_text "$socket"
@@ -110,8 +113,8 @@ left() {
     [ -z "${!:-}" ] || kill -KILL -- "-$!" "$!" 2>/dev/null || : # it may have no session yet
     rm -f -- "$socket" "$socket.pid" "$socket.ended" "$socket.clients"
 }
-setsid python3 -B "$library/nbd_server.py" ended="$socket.ended" "${partition[@]}" socket="$socket" \
+setsid python3 -I -B "$library/nbd_server.py" ended="$socket.ended" "${partition[@]}" socket="$socket" \
     clients="$socket.clients" pid="$socket.pid" -- "$(command -v "$GELI_NBD")" "${readonly[@]}" "${key[@]}" "$image" &
 wait "$!" || fail 'nothing is served'
-path=$(python3 -c 'import sys, urllib.parse; print(urllib.parse.quote(sys.argv[1]))' "$socket")
+path=$(python3 -I -c 'import sys, urllib.parse; print(urllib.parse.quote(sys.argv[1]))' "$socket")
 note "$1: served at nbd+unix:///?socket=$path until $program -e $(printf %q "$2")"

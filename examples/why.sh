@@ -46,7 +46,9 @@ tell_refusal() {
 # of_freebsd VERB: what does the work of a verb of FreeBSD's geli(8) that isn't here.
 of_freebsd() {
     case $1 in
-        status) say "status: nothing stays attached after a run: $(called geli-info) says what an image is" ;;
+        status)
+            say "status: nothing stays attached after a run: $(called geli-info) says what an image is," \
+                "$(called mount-provider) -l what is mounted" ;;
         version) say "version: $(called geli-info) says of which version the metadata of an image are" ;;
         label) say "label: $(called make-provider) makes a provider; geli itself does by 'init'" ;;
         stop) say "stop: $(called mount-provider) -u unmounts a provider, $(called serve-nbd) -e ends its server" ;;

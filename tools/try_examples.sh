@@ -60,7 +60,7 @@ trial lines
 mkdir readme
 says "the lines of the README" test "$(cd readme && PATH=$folder/bin:$PATH bash ../lines)" = "$(printf 'ok\nok\nok\nok 68656c6c6f2020202')"
 
-printf 'a passphrase\n' >pass
+printf 'a passphrase\n' >pass && chmod 600 pass
 make=$top/examples/make-provider.sh
 says "make-provider.sh makes a provider" "$make" -i 100 -J pass 1048576 'an image' key backup 2>notes
 says "  which opens" "$GELI" attach -C -k key -j pass 'an image' >out
@@ -79,7 +79,9 @@ says "  nor of more than an image can have" test "$("$make" -i 100 -J pass 8192T
 # A plain file into a provider and back.
 "$make" -i 100 -J pass 524288 a.img key a.backup 2>notes
 "$make" -a -i 100 -J pass 524288 c.img key c.backup 2>notes
-in=$top/examples/copy-in.sh out=$top/examples/copy-out.sh look=$top/examples/after-a-power-failure.sh
+mkdir forced # copies that ask nothing
+printf '#!/bin/sh\nexec "%s" -f "$@"\n' "$top/examples/copy-in.sh" >forced/copy-in.sh && chmod +x forced/copy-in.sh
+in=$folder/forced/copy-in.sh out=$top/examples/copy-out.sh look=$top/examples/after-a-power-failure.sh
 head -c 462849 /dev/zero >long # a byte more than c.img takes
 # An nbdcopy that notes its words, and one that ends at once.
 mkdir noted dead
@@ -379,7 +381,7 @@ says "a folder that isn't there is told" test "$("$out" -b 13 -k key -j pass a.i
 # Broken off in the middle: by a geli that is slow, and the signal that a terminal sends.
 printf '#!/bin/sh\ncase $1 in script) while read -r line; do sleep 0.5; echo "$line"; done | "%s" "$@" ;; *) exec "%s" "$@" ;; esac\n' "$GELI" "$GELI" >slow
 chmod +x slow
-broken() { GELI=$here/slow GELI_NBD=none timeout -s INT 3 "$@"; }
+broken() { GELI=$here/slow GELI_NBD=none timeout -s INT "${BREAK_AFTER:-3}" "$@"; } # seconds: more on a busy machine
 # A geli-nbd that is slow.
 cat >slow-nbd <<EOF
 #!/usr/bin/env python3
@@ -405,7 +407,7 @@ says "what copy-out.sh leaves" test "$(broken "$out" -k key -j pass full.img ful
 says "  indeed" test -e full.out.part -a ! -e full.out
 if command -v nbdcopy >commands; then
     rm full.out.part
-    broken_nbdcopy() { GELI_NBD=$here/slow-nbd timeout -s INT 3 "$@"; }
+    broken_nbdcopy() { GELI_NBD=$here/slow-nbd timeout -s INT "${BREAK_AFTER:-3}" "$@"; }
     says "  and by nbdcopy" test "$(broken_nbdcopy "$in" -k key -j pass many full.img 2>&1 |
         grep -c 'full.img: some sectors are as before.*give this again')" = 1
     says "  and out" test "$(broken_nbdcopy "$out" -k key -j pass full.img full.out 2>&1 |
@@ -708,6 +710,7 @@ a write or a flush was refused once, at"$'\n1'
     nbdfuse part [ nbdkit --exit-with-parent --filter=partition file disk.img partition=2 ] 2>commands &
     for _ in 1 2 3 4 5 6 7 8 9 10; do [ -e part/nbd ] || sleep 0.5; done
     says "a provider in a partition of a disk's image" "$mount" -k key -j pass part/nbd "$files" 2>notes
+    says "  of whose disk's room nothing is known" test "$(grep -c 'may come to take' notes)" = 0
     says "  is mounted with its file" cmp "$top/README.md" "$files/README.md"
     says "  and unmounted" "$mount" -u "$files" 2>notes
     fusermount3 -u part
@@ -818,9 +821,9 @@ says "  and a provider is made over it where its own is" shown $'used.disk\n' "$
 says "  which opens" "$GELI" attach -C -k key -j pass used.disk >out
 if have nbdkit nbdfuse fuse2fs mke2fs fusermount3 blkid && [ -w /dev/fuse ]; then
     mkdir used
-    says "  in which -m makes no filesystem" test "$("$mount" -m -k key -j pass used.disk used 2>&1 |
-        grep -c -- '-M makes')" = 1
-    says "  nor -M where another name is typed" test "$(shown $'other\n' "$mount" -M -k key -j pass used.disk used |
+    says "  in which -m makes a filesystem" "$mount" -m -k key -j pass used.disk used 2>notes
+    says "  and it is unmounted" "$mount" -u used 2>notes
+    says "  -M makes none over it where another name is typed" test "$(shown $'other\n' "$mount" -M -k key -j pass used.disk used |
         grep -c 'the names differ')" = 1
     says "  but where its own is" shown $'used.disk\n' "$mount" -M -k key -j pass used.disk used >notes
     says "  and it is unmounted" "$mount" -u used 2>notes
@@ -830,6 +833,403 @@ fi
 interrupted() { shown "$(printf '\3')" "$make" -i 100 1M asked.img key asked.backup >notes; [ $? = 130 ]; }
 says "an interrupt at the prompt ends with 130" interrupted
 says "  and leaves nothing" test ! -e asked.img -a ! -e asked.backup
+
+# --- What is lost, leaked or misunderstood by one who means well, or by what another has put there.
+
+mkdir careful && cd careful || exit 2
+cp ../pass ../key .
+cp ../terminal.py .
+PATH=$PATH:/usr/sbin:/sbin
+here=$folder/careful
+copy_in=$top/examples/copy-in.sh restore=$top/examples/restore-provider.sh
+# changed FIELD=VALUE...: makes changed.img, as a.img with other fields in its metadata, whose MD5 is right.
+cat >change.py <<'EOS'
+import hashlib, struct, sys
+PLACES = {"flags": (20, "<I"), "ealgo": (24, "<H"), "provsize": (30, "<Q"), "sectorsize": (38, "<I"), "iterations": (43, "<i")}
+with open(sys.argv[1], "r+b") as file:
+    file.seek(-512, 2)
+    sector = bytearray(file.read(512))
+    for word in sys.argv[2:]:
+        name, value = word.split("=")
+        at, kind = PLACES[name]
+        struct.pack_into(kind, sector, at, int(value, 0))
+    sector[495:511] = hashlib.md5(sector[:495]).digest()
+    file.seek(-512, 2)
+    file.write(sector)
+EOS
+changed() { cp a.img changed.img && python3 change.py changed.img "$@"; }
+esc=$'\e'
+"$make" -i 100 -J pass 1M a.img key a.backup 2>notes
+
+# A copy over what is in a provider.
+head -c 300K /dev/urandom >photo
+mke2fs -q -t ext4 fs.raw 900K >out 2>notes
+says "a copy into a new provider asks nothing" "$copy_in" -k key -j pass fs.raw a.img 2>notes </dev/null
+cp a.img before
+says "one over a filesystem isn't made where nobody can be asked" test "$(setsid -w "$copy_in" -k key -j pass photo a.img 2>&1 </dev/null |
+    grep -c 'a.img: there is something in it, ext4: its first 307200 bytes will be lost\|nothing was changed.*-f does')" = 2
+says "  indeed" cmp a.img before
+says "  nor where another name is typed" test "$(shown $'other\n' "$copy_in" -k key -j pass photo a.img |
+    grep -c 'nothing was changed: the names differ')" = 1
+says "  indeed" cmp a.img before
+says "  but where its own is" shown $'a.img\n' "$copy_in" -k key -j pass photo a.img >typed
+says "  and -f doesn't ask, nor where what was there is no filesystem" "$copy_in" -f -k key -j pass fs.raw a.img 2>notes </dev/null
+truncate -s 1M new.img && "$GELI" init -a HMAC/SHA256 -P -K key new.img >out
+says "  and nobody is asked where nothing can be read" "$copy_in" -p -k key photo new.img 2>notes </dev/null
+says "  but where some can" test "$(setsid -w "$copy_in" -p -k key pass new.img 2>&1 </dev/null | grep -c 'something in it')" = 1
+
+# A disk that was another's before.
+over() { shown "$1"$'\n' "$make" -d -i 100 -J pass "$1" key "$1.backup" >typed; }
+if have cryptsetup blkid; then
+    for size in 16k 4m; do
+        rm -f luks luks.backup && truncate -s 24M luks
+        printf x | cryptsetup -q luksFormat --pbkdf pbkdf2 --pbkdf-force-iterations 1000 --luks2-metadata-size $size luks - 2>notes
+        says "a provider is made over a LUKS2 with $size of metadata" over luks
+        says "  of which nothing is found again" test -z "$(blkid -p luks)"
+        cp luks before
+        says "  by cryptsetup either" test "$(cryptsetup isLuks luks; echo $?)" = 1
+        says "  which changes nothing" cmp luks before
+    done
+else
+    echo "not tried: a disk that was a LUKS (no cryptsetup)"
+fi
+if have sfdisk blkid; then
+    truncate -s 3M gpt && printf 'label: gpt\nstart=2048, size=2048\n' | sfdisk -q gpt 2>notes
+    says "a provider is made over a GPT" over gpt
+    says "  which isn't found again" test -z "$(blkid -p gpt)$(sfdisk -d gpt 2>/dev/null)"
+    says "  and opens" "$GELI" attach -C -k key -j pass gpt >out
+else
+    echo "not tried: a disk that was a GPT's (no sfdisk)"
+fi
+truncate -s 2M used.raw && mke2fs -q used.raw && cp used.raw before
+if loop=$(losetup --find --show used.raw 2>notes); then
+    says "a file that a loop device uses is left alone" test "$(shown $'used.raw\n' "$make" -d -i 100 -J pass used.raw key used.backup |
+        grep -c "nothing was changed: 'used.raw' is in use by a loop device: $loop")" = 1
+    says "  indeed" cmp used.raw before
+    losetup -d "$loop"
+else
+    echo "not tried: a file that a loop device uses (no loop device)"
+fi
+
+# Names.
+"$make" -i 100 -J pass 1M b.img key b.backup 2>notes
+cp b.img before && cp b.img $'b.img\n'
+for words in 'kill-provider.sh -y b.img?' 'geli-info.sh b.img?' 'make-provider.sh -J pass 1M no.img key? no.backup' \
+    'change-passphrase.sh -k key -j pass -J pass b.img new?' 'copy-out.sh -k key -j pass b.img? no.out' 'mount-provider.sh -u b.img?' \
+    'serve-nbd.sh -e b.img?' 'restore-provider.sh b.backup? b.img old'; do
+    read -ra words <<<"$words"
+    words=("${words[@]//\?/$'\n'}")
+    says "a name that ends in a newline is refused: ${words[0]}" test "$("$top/examples/${words[0]}" "${words[@]:1}" 2>&1 |
+        grep -c 'ends in a newline, and is refused')" = 1
+done
+says "  and no other file is changed" cmp b.img before
+says "KEYFILE and IMAGE are two files" test "$("$make" -i 100 -J pass 1M q.img q.img q.backup 2>&1 | grep -c 'are one file')" = 1
+says "  and nothing is made" test ! -e q.img -a ! -e q.backup
+cp b.img d.img && ln d.img d.link
+says "  not by another link either" test "$(shown $'d.img\n' "$make" -d -i 100 -J pass d.img d.link q.backup | grep -c 'are one file')" = 1
+says "  indeed" cmp d.img b.img
+ln -s elsewhere key.link
+says "a key file isn't made through a link" test "$("$make" -i 100 -J pass 1M z.img key.link z.backup 2>&1 |
+    grep -c "the key file './key.link' can't be made")" = 1
+says "  indeed" test ! -e elsewhere
+cp pass open.pass && chmod 644 open.pass
+says "a passphrase file that all may read is told" test "$("$top/examples/geli-info.sh" -k key -j open.pass a.img 2>&1 |
+    grep -c "^note: everybody may use the file 'open.pass'")" = 1
+
+# What others see.
+real=$(command -v python3)
+mkdir watched urllib
+printf '#!/bin/sh\nprintf "%%s\\n" "$@" >>"%s"\nexec "%s" "$@"\n' "$here/watched/words" "$real" >watched/python3
+chmod +x watched/python3
+PATH=$here/watched:$PATH "$info" -k key -j pass a.img >reply 2>notes
+salt=$("$GELI" dump a.img | sed -n 's/^salt: //p')
+says "geli-info.sh has no salt among the words of a process" test -s watched/words -a "$(grep -c "$salt" watched/words)" = 0
+printf 'open("ran", "w")\n' >urllib/__init__.py
+if have nbdkit; then
+    # (The system's python3: another may have imported it by itself.)
+    says "serve-nbd.sh serves in a folder that has a urllib" env PATH="/usr/bin:$PATH" "$serve" -k key -j pass a.img sock 2>notes
+    says "  whose code isn't run" test ! -e ran
+    "$serve" -e sock 2>notes
+else
+    echo "not tried: a folder that has a urllib (no nbdkit)"
+fi
+odd="${esc}]0;owned"$'\a'"${esc}[2J.img"
+cp a.img "$odd"
+says "a name with control characters" test "$("$info" "$odd" 2>&1 | grep -c '^?]0;owned??\[2J.img: a provider')" = 1
+says "  of one that isn't there" test "$("$info" "none$odd" 2>&1 | grep -c "$esc")" = 0
+cat >hold.py <<'EOS'
+import fcntl, os
+file = os.open("held.img", os.O_RDONLY)
+fcntl.flock(file, fcntl.LOCK_EX)
+os.set_inheritable(file, True)
+os.execv("/bin/sleep", ["\x1b]0;owned\x07\x1b[2J\nmake-provider.sh: type your passphrase", "60"])
+EOS
+cp a.img held.img
+python3 hold.py & held=$!
+for _ in {1..50}; do ! flock -n held.img true || sleep 0.1; done
+says "a process with control characters in its words holds an image" test "$("$change" -k key -j pass -J pass held.img held.backup 2>&1 |
+    tee told | grep -c 'holds it (?\]0;owned??\[2J?make-provider.sh: type')" = 1
+says "  and none of them is shown" test "$(grep -c "$esc" told)" = 0
+kill $held
+wait $held 2>notes
+
+# A typed passphrase, and one of a pipe: in no file, and in no core.
+waits() { # PROGRAM: one that looks, tells and then does nothing for a while
+    cat <<EOS
+#!/bin/bash
+case \$1 in list | dump | --version) exec "$1" "\$@" ;; esac
+ulimit -c >"$here/cores"
+touch "$here/reached"
+sleep 20
+EOS
+}
+waits "$GELI" >waits && waits "$GELI_NBD" >waits-nbd
+chmod +x waits waits-nbd
+cat >typed.py <<'EOS'
+# typed.py FOLDER COMMAND...: types a passphrase at each prompt; once the program has begun: which files have it. Then
+# all that was started is killed, and it says what is left in the folder.
+import os, pty, select, signal, subprocess, sys, time
+folder, reached = sys.argv[1], "reached"
+process, terminal = pty.fork()
+if process == 0:
+    os.environ["XDG_RUNTIME_DIR"] = folder
+    os.execvp(sys.argv[2], sys.argv[2:])
+said, until = b"", time.monotonic() + 30
+while not os.path.exists(reached) and time.monotonic() < until:
+    if select.select([terminal], [], [], 0.1)[0]:
+        try:
+            said += os.read(terminal, 4096)
+        except OSError:
+            break
+        if said.rstrip().endswith((b"passphrase:", b"again:")):
+            os.write(terminal, b"secret words\n")
+            said += b"\n"
+if not os.path.exists(reached):
+    print("the program isn't reached", said)
+for name in subprocess.run(["grep", "-rl", "secret words", folder], stdout=subprocess.PIPE).stdout.split():
+    print("a file has it:", name)
+for number in filter(str.isdigit, os.listdir("/proc")):
+    try:
+        with open(f"/proc/{number}/environ", "rb") as file:
+            if f"XDG_RUNTIME_DIR={folder}\0".encode() in file.read():
+                os.kill(int(number), signal.SIGKILL)
+    except OSError:
+        pass
+for name in subprocess.run(["grep", "-rl", "secret words", folder], stdout=subprocess.PIPE).stdout.split():
+    print("a file has it behind SIGKILL:", name)
+EOS
+printf 'secret words\n' >secret
+truncate -s 1M s.img && "$GELI" init -i 100 -K key -J secret s.img >out
+mkdir shm target
+hides() { # NAME WORDS...: what has a passphrase that is typed, or comes by a pipe
+    rm -rf reached shm/* sock* new.* target/*
+    GELI=$here/waits GELI_NBD=$here/waits-nbd GELI_MOUNTS=$here/shm/mounts python3 typed.py "$here/shm" "$@"
+}
+for words in 'after-a-power-failure.sh -k key s.img' 'copy-out.sh -k key s.img new.out' 'copy-in.sh -f -k key pass s.img' \
+    'change-passphrase.sh -k key s.img new.backup' 'make-provider.sh -i 100 1M new.img key new.backup' \
+    'grow-provider.sh -k key 2M s.img new.backup' 'restore-provider.sh -k key a.backup a.img new.old' \
+    'scrub-provider.sh -k key s.img new.place' 'serve-nbd.sh -k key s.img sock' 'mount-provider.sh -k key s.img target'; do
+    read -ra words <<<"$words"
+    case ${words[0]} in
+        serve*) have nbdkit || continue ;;
+        mount*) have nbdfuse fusermount3 && [ -w /dev/fuse ] || continue ;;
+    esac
+    (ulimit -c unlimited 2>notes; hides "$top/examples/${words[0]}" "${words[@]:1}") >left
+    says "no file has the passphrase that is typed to ${words[0]}" test ! -s left
+    says "  nor would a core" test "$(cat cores)" = 0
+done
+piped() { hides bash -c '"$1" -k key -j <(cat secret) s.img new.out' - "$out"; }
+says "  nor has one that comes by a pipe" test -z "$(piped)"
+rm -rf shm target
+# Stopped at the prompt by ^Z, and taken up again.
+cat >stopped.py <<'EOS'
+import os, pty, select, sys
+process, terminal = pty.fork()
+if process == 0:
+    os.environ["PS1"] = "prompt$ "
+    os.execvp("bash", ["bash", "--norc", "--noediting", "-i"])
+said = b""
+def settle(text=b""):
+    """Waits for a text, and until nothing more comes."""
+    global said
+    at, turns = len(said), 0
+    while turns < 20 and (text not in said[at:] or select.select([terminal], [], [], 1)[0]):
+        if select.select([terminal], [], [], 1)[0]:
+            said += os.read(terminal, 4096)
+        else:
+            turns += 1
+settle(b"prompt$ ")
+os.write(terminal, " ".join(sys.argv[1:]).encode() + b"\n")
+settle(b"passphrase:")
+os.write(terminal, b"\x1a")
+settle()
+if b"Stopped" in said:
+    os.write(terminal, b"fg\n")
+    settle()
+os.write(terminal, b"secret words\n")
+settle(b"prompt$ ")
+sys.stdout.buffer.write(said)
+EOS
+python3 stopped.py "$out" -k key s.img stopped.out >stopped
+says "what is typed after ^Z at the prompt isn't shown" test "$(grep -c 'secret words' stopped)" = 0
+says "  and is taken" test -e stopped.out
+
+# A program that can't be built is told before anything is asked or made.
+printf '#!/bin/sh\nexit 70\n' >fails && chmod +x fails
+says "a program that doesn't run is told" test "$(GELI=$here/fails shown $'\3' "$make" 1M fails.img fails.key fails.backup |
+    tee told | grep -c "/fails' doesn't run")" = 1
+says "  before a passphrase is asked for" test "$(grep -c 'passphrase' told)" = 0 -a ! -e fails.key
+
+# Metadata that nobody can attach.
+for what in sectorsize=0 sectorsize=1 sectorsize=100 provsize=0 ealgo=2 flags=0xffffffff; do
+    changed $what
+    "$info" changed.img >reply 2>notes
+    says "geli-info.sh says that metadata with $what aren't served" test "$? $(grep -c '^served here: no, error [0-9]* ' reply)" = '1 1'
+    says "  and has no fault of its own" test "$(cat reply notes | grep -c 'Traceback\|: -[0-9]')" = 0
+    for script in "$copy_in -f -k key -j pass photo changed.img" "$out -k key -j pass changed.img changed.out" "$look -k key -j pass changed.img"; do
+        # shellcheck disable=SC2086 # they are words
+        $script >reply 2>&1
+        says "  nor ${script##*/}" test "$? $(grep -c 'Traceback' reply) $(grep -c 'error [0-9]' reply)" = '1 0 1'
+    done
+    says "  which calls them whole, and no more" test "$(grep -c 'metadata: sound' reply)" -le "$(grep -c 'nobody can open their provider here\|^key: error 8' reply)"
+done
+changed ealgo=2
+says "a cipher of FreeBSD's has its name" grep -q '^cipher: 3DES-CBC, ' <("$info" changed.img)
+changed iterations=2147483647
+says "how long a key may take is told" test "$(timeout -s INT 5 "$out" -k key -j pass changed.img changed.out 2>&1 |
+    grep -c 'goes through 2147483647 iterations of PBKDF2')" = 1
+
+# What an unknown image is.
+says "a file that isn't there is told" test "$("$info" nosuch 2>&1)" = "geli-info.sh: there is no file 'nosuch'"
+known() { "$info" "$1" 2>&1 >out | grep -c "$2"; }
+(cat a.img; head -c 4096 /dev/zero) >behind
+says "geli-info.sh says where the metadata are in a longer image" test "$(known behind 'it has 1052672 bytes, and metadata of a provider of 1048576 bytes end at its byte 1048576')" = 1
+if have blkid; then
+    says "  and what blkid knows" test "$(known fs.raw 'blkid(8) says that it is: ext4')" = 1
+fi
+if have sfdisk; then
+    truncate -s 3M disk && printf 'label: gpt\nstart=2048, size=1024\nstart=3072, size=2048\n' | sfdisk -q disk 2>notes
+    dd if=a.img of=disk bs=512 seek=3072 conv=notrunc status=none
+    says "  and which partition has a provider" test "$(known disk 'partition 2 has a provider: .*offset=1572864 range=1048576')" = 1
+fi
+says "geli-info.sh knows a backup" grep -q '^a.backup: a backup of the metadata of a provider of 1048576 bytes' <("$info" a.backup)
+says "  and whether a key opens it" grep -q '^this key: opens slot 0$' <("$info" -k key -j pass a.backup)
+(cat a.backup; head -c 3584 /dev/zero) >a.sector
+says "  also one of a larger sector" grep -q '^a.sector: a backup of the metadata' <("$info" a.sector)
+
+# A backup that is put back.
+"$change" -k key -j pass -J secret a.img later.backup 2>notes
+cp a.img before
+says "restore-provider.sh says what both are" test "$(setsid -w "$restore" a.backup a.img old 2>&1 </dev/null |
+    grep -c '^a.backup: a provider of 1048576 bytes, keys 0x1, \|^a.img, as it is now: a provider .* keys 0x2, \|^both are of one provider')" = 3
+says "  and does nothing where nobody can be asked" cmp a.img before
+says "  nor makes a file" test ! -e old
+says "  nor with a key that doesn't open the backup" test "$("$restore" -y -k key -j secret a.backup a.img old 2>&1 |
+    grep -c "nothing was changed: the key doesn't open 'a.backup': error 15")" = 1
+says "  indeed" cmp a.img before
+says "  but by -y" "$restore" -y -k key -j pass a.backup a.img old 2>notes
+says "  with the old key" "$GELI" attach -C -k key -j pass a.img >out
+says "  and keeps what was there" cmp old later.backup
+says "  and replaces no file" test "$("$restore" -y later.backup a.img old 2>&1 | grep -c 'left alone')" = 1
+cp a.img before
+says "another provider's is told" test "$(setsid -w "$restore" -y b.backup a.img other.old 2>&1 </dev/null |
+    grep -c '^they are of two providers: \|nothing was changed: no terminal')" = 2
+says "  and not put in" cmp a.img before
+says "  but where the name of the image is typed" shown $'a.img\n' "$restore" b.backup a.img other.old >typed
+says "  indeed" test "$("$GELI" dump a.img | sed -n 's/^salt: //p')" = "$("$GELI" dump b.img | sed -n 's/^salt: //p')"
+says "  and goes back" "$GELI" restore other.old a.img >out
+says "  indeed" cmp a.img before
+"$destroy" -y a.img 2>notes
+says "an image that was destroyed is told" test "$(shown $'a.img\n' "$restore" -k key -j pass a.backup a.img gone.old |
+    grep -c '^a.img, as it is now: error 5\|^a.img: has the metadata of a.backup.$')" = 2
+says "  and restored" "$GELI" attach -C -k key -j pass a.img >out
+says "  with nothing to keep" test ! -e gone.old
+says "a file that is no backup is left" test "$("$restore" -y photo a.img no.old 2>&1 | grep -c "'photo' is no backup")" = 1
+cp a.backup damaged && printf '\1' | dd of=damaged bs=1 seek=60 conv=notrunc status=none
+says "  and a damaged one" test "$("$restore" -y damaged a.img no.old 2>&1 | grep -c "no sound backup: error 7")" = 1
+"$make" -i 100 -J pass 2M larger.img key larger.backup 2>notes
+says "one for another size is told" test "$("$restore" -y larger.backup a.img no.old 2>&1 | grep -c 'the image has 1048576 bytes (-f')" = 1
+says "  and a.img is as it was" "$GELI" attach -C -k key -j pass a.img >out
+
+# A server of a socket.
+if have nbdkit; then
+    rm -rf urllib
+    lets_go() { timeout 60 bash -c 'exec 7>&1; "$@"' - "$serve" -k key -j pass a.img sock 2>&1 | cat >said; }
+    SECONDS=0
+    lets_go
+    says "serve-nbd.sh lets the pipe of its caller go" test -S sock -a $SECONDS -lt 45
+    "$serve" -e sock 2>notes
+    "$make" -i 100 -J pass 1M m.img key m.backup 2>notes
+    says "a partition that isn't there isn't served" test "$(timeout 60 "$serve" -n 7 -k key -j pass m.img table.sock 2>&1 >out |
+        tee told | grep -c 'nothing is served\|partition table')" = 2
+    says "  and isn't called so" test "$(grep -c 'served at' told)" = 0
+    says "  and leaves nothing" test -z "$(ls table.sock* 2>/dev/null)"
+    echo precious >precious
+    ln -s precious sock.pid.new && ln -s precious sock.ended.new
+    "$serve" -k key -j pass a.img sock 2>notes
+    "$serve" -e sock 2>notes
+    says "no link beside a socket is written through" test "$(cat precious)" = precious
+    ln -s nowhere sock.pid
+    says "  nor is one taken for nothing" test "$("$serve" -k key -j pass a.img sock 2>&1 | grep -c 'is there already')" = 1
+    rm sock.pid
+    cp a.img gone.img
+    "$serve" -k key -j pass gone.img sock 2>notes
+    rm gone.img
+    says "an image that is removed while it is served is told" test "$("$serve" -e sock 2>&1 |
+        grep -c "may be lost: '.*/gone.img' was removed or replaced")" = 1
+else
+    echo "not tried: a server of a socket (no nbdkit)"
+fi
+
+# A mount.
+if have nbdkit nbdfuse fuse2fs mke2fs e2fsck fusermount3 blkid && [ -w /dev/fuse ]; then
+    mkdir files
+    export GELI_MOUNTS=$here/mounts
+    rm -f m.img m.backup
+    "$make" -i 100 -J pass 2M m.img key m.backup 2>notes
+    "$mount" -m -k key -j pass m.img files 2>notes
+    echo hello >files/hello
+    says "mount-provider.sh -l says what is mounted" test "$("$mount" -l)" = "$here/files: $here/m.img (ext4)"
+    "$mount" -u files 2>notes
+    says "  and nothing where nothing is" test -z "$("$mount" -l)"
+    # The server ends a second after its connection.
+    printf '#!/bin/sh\n"%s" "$@"\nstatus=$?\nexec </dev/null >/dev/null\nsleep 1\nexit $status\n' "$GELI_NBD" >late
+    chmod +x late
+    says "a mount that fails says why, though its server ends late" test "$(GELI_NBD=$here/late "$mount" -k key -j key m.img files 2>&1 |
+        grep -c 'error 15 WrongKey')" = 1
+    german=(env LANGUAGE=de LC_ALL=C.UTF-8)
+    if [ "$("${german[@]}" stat -c %F .)" != directory ]; then
+        says "a mount in German" "${german[@]}" "$mount" -k key -j pass m.img files 2>notes
+        says "  with its file" test "$(cat files/hello)" = hello
+        says "  which isn't unmounted while it is in use" test "$(cd files && "${german[@]}" "$mount" -u . 2>&1 | grep -c 'it is in use by')" = 1
+        says "  and then is" "${german[@]}" "$mount" -u files 2>notes
+    else
+        echo "not tried: a mount in German (stat(1) speaks English)"
+    fi
+    cp m.img moved.img
+    "$mount" -k key -j pass moved.img files 2>notes
+    echo lost >files/lost && mv moved.img away.img && cp m.img moved.img
+    says "an image that is replaced while it is mounted is told" test "$("$mount" -u files 2>&1 |
+        grep -c "moved.img' was removed or replaced meanwhile")" = 1
+    cp m.img moved.img
+    "$mount" -k key -j pass moved.img files 2>notes
+    truncate -s 1M moved.img
+    says "  and one that is made shorter" test "$("$mount" -u files 2>&1 | grep -c "may be lost\|moved.img' was made shorter")" = 1
+    truncate -s 1M bare.img && "$GELI" init -a HMAC/SHA256 -P -K key bare.img >out
+    says "a beginning that can't be read is told" test "$("$mount" -p -k key bare.img files 2>&1 |
+        grep -c "its first sectors can't be read")" = 1
+    "$out" -k key -j pass m.img label.raw 2>notes
+    tune2fs -L "${esc}[2J${esc}]0;X" label.raw >out 2>notes
+    debugfs -w -R 'set_super_value state 0' label.raw 2>notes
+    "$copy_in" -f -k key -j pass label.raw m.img 2>notes
+    says "a label with control characters" "$mount" -k key -j pass m.img files 2>told
+    says "  is told" grep -q 'was mended' told
+    says "  without them" test "$(grep -c "$esc" told)" = 0
+    "$mount" -u files 2>notes
+else
+    echo "not tried: mounts of these (no nbdkit, nbdfuse, fuse2fs, or /dev/fuse)"
+fi
+cd "$folder" || exit 2
 
 # The scripts themselves.
 if command -v shellcheck >commands; then

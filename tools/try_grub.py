@@ -91,7 +91,7 @@ def set_version(image, version):
 
 def fill(geli, passfile="pass"):
     copy_in = os.path.join(TOP, "examples", "copy-in.sh")
-    subprocess.run([copy_in, "-j", passfile, "fat.img", "a.img"], check=True, stderr=subprocess.DEVNULL,
+    subprocess.run([copy_in, "-f", "-j", passfile, "fat.img", "a.img"], check=True, stderr=subprocess.DEVNULL,
                    env={**os.environ, "GELI": geli})
 
 

@@ -5,7 +5,8 @@
 #
 #   tools/try_mount.sh [PROGRAM [CASE...]]      without a word: the program that ./geli runs, and all cases
 #
-# GELI_NBD names the other program, without it that which ./geli-nbd runs.
+# GELI_NBD names the other program, without it that which ./geli-nbd runs. All of it holds in any language, as with
+# LC_ALL=de_DE.UTF-8; the case `language` tries that too, where German is there.
 #
 # It needs what mount-provider.sh needs, and a program that is proved (a trial is too slow). What else it lacks it tells
 # by `not tried`: fio, nbdsh, git, root. It is no part of the gate: it takes about an hour. ROUNDS is how many moments
@@ -17,7 +18,8 @@ top=$(cd "$(dirname "$(readlink -f "${BASH_SOURCE[0]}")")/.." && pwd)
 PATH=$PATH:/usr/sbin:/sbin
 unset GELI_MOUNTS
 mount=$top/examples/mount-provider.sh make=$top/examples/make-provider.sh out=$top/examples/copy-out.sh
-serve=$top/examples/serve-nbd.sh grow=$top/examples/grow-provider.sh in=$top/examples/copy-in.sh
+serve=$top/examples/serve-nbd.sh grow=$top/examples/grow-provider.sh
+copy_in() { "$top/examples/copy-in.sh" -f "$@"; }
 rounds=${ROUNDS:-20}
 exec 3>&1
 
@@ -90,7 +92,7 @@ checked() {
     "$out" -k key -j pass "$1" raw 2>out.notes || return 9
     e2fsck -fn raw >checked.out 2>&1
 }
-is_clean() { checked "${1:-m.img}" && dumpe2fs -h raw 2>&1 | grep -q '^Filesystem state: *clean'; }
+is_clean() { checked "${1:-m.img}" && LC_ALL=C dumpe2fs -h raw 2>&1 | grep -q '^Filesystem state: *clean'; }
 # What a power failure would leave now: a copy of the image, while it is mounted and nobody writes.
 copied_at_rest() { sleep 1 && cp --sparse=always m.img rest.img; }
 at_rest() { copied_at_rest && checked rest.img; }
@@ -212,7 +214,7 @@ case_fio() { # blocks whose space is allocated ahead
     says "  and it ends" down
     says "  and is clean" is_clean
     says "  with nothing left" nothing_left
-    mke2fs -q -t ext4 -b 4096 -E nodiscard extents.raw 18000 && "$in" -k key -j pass extents.raw m.img 2>notes
+    mke2fs -q -t ext4 -b 4096 -E nodiscard extents.raw 18000 && copy_in -k key -j pass extents.raw m.img 2>notes
     says "an ext4 with extents is warned of" test "$(up m.img; grep -c 'has extents' notes)" = 1
     says "  and it ends" down
 }
@@ -263,6 +265,8 @@ case_kernel() { # -K: the kernel's ext4
     "$make" -i 100 -J pass 60M k.img key k.backup 2>notes
     says "-K mounts by the kernel" up -K -m k.img
     says "  indeed" test "$(findmnt -no FSTYPE files)" = ext4
+    says "  and no program of it gets more rights, nor is a device one" \
+        test "$(findmnt -no OPTIONS files | tr , '\n' | grep -cx 'nosuid\|nodev')" = 2
     head -c 3M /dev/urandom >kernel && cp kernel files/ && sync -f files
     cp --sparse=always k.img rest.img
     says "  and a sync reaches the image" mended rest.img
@@ -321,7 +325,9 @@ case_partition() { # a filesystem in a partition of the data: nbdkit stands betw
     local who
     "$make" -i 100 -J pass 40M p.img key p.backup 2>notes
     truncate -s 36M table.raw && printf 'label: dos\nstart=2048\n' | sfdisk -q table.raw
-    "$in" -k key -j pass table.raw p.img 2>notes
+    copy_in -k key -j pass table.raw p.img 2>notes
+    says "a table of partitions is told" test "$(up p.img; echo $?)" = 1
+    says "  and what to give" told 'it has partitions (dos).*: -n names one of them'
     says "-n mounts what is in a partition, in which -m makes an ext4" up -n 1 -m p.img
     head -c 3M /dev/urandom >three && cp three files/by-u
     says "  and it ends" down
@@ -550,7 +556,7 @@ case_damaged() { # a filesystem that is damaged, or was mounted by a kernel that
     debugfs -w -R 'set_super_value state 2' raw 2>notes
     debugfs -w -R 'set_inode_field /examples/lib.sh links_count 7' raw 2>notes
     debugfs -w -R 'set_inode_field /examples block[0] 3' raw 2>notes
-    "$in" -k key -j pass raw m.img 2>notes
+    copy_in -k key -j pass raw m.img 2>notes
     says "a damaged filesystem isn't mounted" test "$(up m.img; echo $?)" = 1
     says "  and what to give is told" told "copy 'm.img' to another disk, and then give -c"
     says "  and no path that is gone" test "$(grep -c "$folder/mounts" notes)" = 0
@@ -564,7 +570,7 @@ case_damaged() { # a filesystem that is damaged, or was mounted by a kernel that
     mke2fs -q -t ext4 -E nodiscard small.raw 70M 2>notes
     # The superblock's checksum; so small an ext4 has no second one.
     printf '\377\377' | dd of=small.raw bs=1 seek=2044 conv=notrunc status=none
-    rm -f m.img && "$in" -k key -j pass small.raw b.img 2>notes && mv b.img m.img
+    rm -f m.img && copy_in -k key -j pass small.raw b.img 2>notes && mv b.img m.img
     says "a superblock whose checksum is wrong isn't mounted" test "$(up m.img; echo $?)" = 1
     says "  and -c mends it" up -c m.img
     says "  and it ends" down
@@ -575,7 +581,7 @@ case_damaged() { # a filesystem that is damaged, or was mounted by a kernel that
         echo kernel >kernel/kernel && sync -f kernel && cp --sparse=always journal.raw crashed.raw
         umount kernel
         "$make" -i 100 -J pass 90M j.img key j.backup 2>notes
-        "$in" -k key -j pass crashed.raw j.img 2>notes
+        copy_in -k key -j pass crashed.raw j.img 2>notes
         says "  (a journal must be played)" grep -q needs_recovery <(dumpe2fs -h crashed.raw 2>&1)
         says "a kernel's journal isn't played by -r" test "$(up -r j.img; echo $?)" = 1
         says "  which tells what to give" told '^without -r it is mounted'
@@ -699,6 +705,48 @@ case_by_hand() {
     says "  with nothing left" nothing_left
     says "  and clean" is_clean
     says "  with its file" has hand2 hand
+}
+
+in_german() { LANGUAGE=de LC_ALL=C.UTF-8 "$@"; } # needs no locale, but the programs' texts
+case_language() { # what programs say in another language
+    [ "$(in_german stat -c %F .)" != directory ] || { echo "not tried: German (stat(1) has no texts of it)"; return; }
+    fresh
+    says "a mount in German" in_german up m.img
+    echo hallo >"files/Grüße" && cp "files/Grüße" hallo
+    says "  and its list" test "$(GELI_MOUNTS=$folder/mounts in_german "$mount" -l)" = "$folder/files: $folder/m.img (ext4)"
+    exec 9>files/open
+    says "  isn't unmounted while it is in use" test "$(in_german down; echo $?)" = 1
+    says "  which is told" told "in use by process $$ "
+    exec 9>&-
+    says "  and then is" in_german down
+    says "  with nothing left" nothing_left
+    says "  and mounts again, by -r" in_german up -r m.img
+    says "  with its file" cmp hallo "files/Grüße"
+    says "  and ends" in_german down
+    in_german up m.img
+    kill -KILL "$(process_of keeper)" "$(process_of files)"
+    sleep 0.5
+    says "  and where its keeper and its filesystem's program were killed" test "$(in_german down; echo $?)" = 1
+    says "  which is told" told 'the filesystem.s program has died'
+    says "  nothing is left" nothing_left
+    says "a mount in English" up m.img
+    says "  ends in German" in_german down
+    says "  with nothing left" nothing_left
+}
+
+case_replaced() { # the image goes from under its mount
+    local how
+    for how in 'rm m.img' 'mv m.img other.img' 'truncate -s 20M m.img'; do
+        fresh
+        up m.img
+        echo lost >files/lost
+        sleep 1
+        $how
+        says "an image after '$how' is told" test "$(down; echo $?)" = 1
+        says "  in words" told "m.img' was \(removed or replaced\|made shorter\)\|a write or a flush was refused"
+        rm -f m.img && fresh
+        says "  and nothing is left" nothing_left
+    done
 }
 
 case_programs() { # what the programs behind it say is shown
@@ -988,7 +1036,7 @@ export GELI GELI_NBD
 [ $# = 0 ] || shift
 names=("$@")
 [ ${#names[@]} -gt 0 ] || names=(rest sync fio large kernel partition full serve refused slow stalled damaged interrupt by_hand
-    programs namespace signals shutdown moments kill)
+    language replaced programs namespace signals shutdown moments kill)
 work=$(mktemp -d)
 folder=$work/none failures=0
 at_end() {

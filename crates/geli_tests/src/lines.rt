@@ -29,13 +29,12 @@ fn served(
     Ok(end.ok())
 }
 
-// How a line ends, by a letter: accepted, silent, refused, otherwise, or not printed.
+// How a line ends, by a letter: accepted, silent, refused, or not printed.
 fn letter_of(end: &Option<LineEnd>) -> char {
     match end {
         Some(LineEnd::Accepted) => 'a',
         Some(LineEnd::Silent) => 's',
         Some(LineEnd::Refused) => 'r',
-        Some(_) => 'o',
         None => 'n',
     }
 }

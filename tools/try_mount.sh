@@ -50,6 +50,7 @@ process_of() {
         case $1:$(words_of "$process") in
             keeper:*keep_mount.py*) [ "$process" != "$keeper" ] || echo "$process" ;;
             front:*keep_mount.py*) [ "$process" = "$keeper" ] || echo "$process" ;;
+            geli:*/python3\ *) ;; # the keeper has the program's name among its words
             device:nbdfuse\ * | server:python3\ *nbd_server.py\ * | files:fuse2fs\ * | geli:/*geli-nbd*) echo "$process" ;;
         esac
     done

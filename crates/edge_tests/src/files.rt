@@ -32,14 +32,6 @@ fn is_left_alone(rt: &HostRuntime) -> Result<bool, Fail> {
     Ok(mode & 0o777 == 0o600 && !fs::exists(rt, "cabinet_test.new0")?)
 }
 
-// Whether the cabinet refuses to replace a link.
-fn spares_a_link(rt: &HostRuntime, files: &mut Files, name: &str) -> Result<bool, Fail> {
-    symlink(rt, name, "cabinet_test.link")?;
-    let spared = !stores(rt, files, "cabinet_test.link", b"new");
-    fs::remove_file(rt, "cabinet_test.link")?;
-    Ok(spared)
-}
-
 #[test]
 fn files_are_a_cabinet(rt: HostRuntime) -> Result<(), Fail> {
     let name = "cabinet_test";
@@ -48,7 +40,9 @@ fn files_are_a_cabinet(rt: HostRuntime) -> Result<(), Fail> {
     assert!(rt; stores(&rt, &mut files, name, b"five!"));
     assert!(rt; has(&rt, &mut files, name, b"five!"));
     assert!(&rt; is_left_alone(&rt)?);
-    assert!(&rt; spares_a_link(&rt, &mut files, name)?);
+    symlink(&rt, name, "cabinet_test.link")?;
+    assert!(rt; !stores(&rt, &mut files, "cabinet_test.link", b"new"));
+    fs::remove_file(&rt, "cabinet_test.link")?;
     fs::remove_file(&rt, name)?;
     assert!(rt; fault_of(&rt, &mut files, name) == Some(LoadFault::Absent));
     assert!(rt; fault_of(&rt, &mut files, ".") == Some(LoadFault::Failed));
@@ -60,27 +54,27 @@ fn refuses(rt: &HostRuntime, files: &mut Files, name: &str) -> bool {
     fault_of(rt, files, name) == Some(LoadFault::Failed) && !stores(rt, files, name, b"new")
 }
 
-// Two files, and two more names of the first.
-fn write_files(rt: &HostRuntime) -> Result<(), Fail> {
-    fs::write(rt, "spared.img", [7u8; 1536].as_slice())?;
-    fs::write(rt, "second.img", [7u8; 1536].as_slice())?;
-    symlink(rt, "spared.img", "spared.soft")?;
-    fs::hard_link(rt, "spared.img", "spared.hard")?;
-    Ok(())
-}
-
 // The files of a run's images are no keys and no backups, under whatever name.
 #[test]
 fn an_image_is_no_file_of_the_cabinet(rt: HostRuntime) -> Result<(), Fail> {
-    write_files(&rt)?;
+    let alloc = rt.alloc();
+    fs::write(&rt, "spared.img", [7u8; 1536].as_slice())?;
+    fs::write(&rt, "second.img", [7u8; 1536].as_slice())?;
+    symlink(&rt, "spared.img", "spared.soft")?;
+    fs::hard_link(&rt, "spared.img", "spared.hard")?;
     let mut opener = SystemFiles::new(rt.clone()?);
-    let mut images = Vec::new(rt.alloc());
-    let name = "join:spared.img:second.img";
-    let _disk = open_image(rt.alloc(), &mut opener, &mut images, true, name)?;
+    let mut images = Vec::new(alloc);
+    let _disk = open_image(
+        alloc,
+        &mut opener,
+        &mut images,
+        true,
+        "join:spared.img:second.img",
+    )?;
     let mut files = FileCabinet::new(opener, images);
     for name in ["spared.hard", "spared.soft", "second.img", "spared.img"] {
         assert!(rt; refuses(&rt, &mut files, name), "{name}");
-        assert!(&rt; fs::remove_file(&rt, name).is_ok(), "{name}");
+        fs::remove_file(&rt, name)?;
     }
     Ok(())
 }

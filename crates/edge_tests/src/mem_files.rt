@@ -68,18 +68,6 @@ fn letter_of(how: &OpenOptions) -> u8 {
     if how.asks_write() { b'O' } else { b'o' }
 }
 
-// Two images, `a.img` of number 1 and `b.img` of number 4, a key file `k` and a passphrase `p`.
-fn images_and_keys<R: Abort + Drop>(rt: R, alloc: Global) -> Result<MemFolder<R>, AllocError> {
-    let key = counted(alloc, 64)?;
-    let passphrase = Vec::from_slice(alloc, b"abc\n")?;
-    let mut folder = MemFolder::new(rt, alloc);
-    folder.give("a.img", Some(file_of(1)), Some(Vec::new(alloc)));
-    folder.give("k", Some(file_of(2)), Some(key));
-    folder.give("p", Some(file_of(3)), Some(passphrase));
-    folder.give("b.img", Some(file_of(4)), Some(Vec::new(alloc)));
-    Ok(folder)
-}
-
 impl<R: Abort + Drop> MemFiles<R> {
     /// Two images, `a.img` of number 1 and `b.img` of number 4, a key file `k`, a passphrase `p`, and random bytes.
     pub(crate) fn new(
@@ -90,14 +78,24 @@ impl<R: Abort + Drop> MemFiles<R> {
         seen: Seen,
         changes: Changes,
     ) -> Result<MemFiles<R>, AllocError> {
-        let fresh = String::from_str(alloc, "")?;
-        let random = counted(alloc, 8000)?;
-        let mut folder = images_and_keys(rt, alloc)?;
-        folder.give("/dev/urandom", Some(file_of(6)), Some(random));
+        let mut folder = MemFolder::new(rt, alloc);
+        folder.give("a.img", Some(file_of(1)), Some(Vec::new(alloc)));
+        folder.give("k", Some(file_of(2)), Some(counted(alloc, 64)?));
+        folder.give(
+            "p",
+            Some(file_of(3)),
+            Some(Vec::from_slice(alloc, b"abc\n")?),
+        );
+        folder.give("b.img", Some(file_of(4)), Some(Vec::new(alloc)));
+        folder.give(
+            "/dev/urandom",
+            Some(file_of(6)),
+            Some(counted(alloc, 8000)?),
+        );
         Ok(MemFiles {
             alloc,
             folder,
-            fresh,
+            fresh: String::from_str(alloc, "")?,
             fails,
             watched,
             seen,

@@ -171,37 +171,11 @@ fn letter(ask: &Ask) -> u8 {
     }
 }
 
-fn letters_of(alloc: Global, asked: &[KeptAsk]) -> Result<Vec<u8>, Fail> {
-    let mut letters = Vec::new(alloc);
-    for kept in asked {
-        letters.push(letter(&kept.ask))?;
-    }
-    Ok(letters)
-}
-
-// What is asked for if the first `met` names are taken and the request of this number fails, and how it ends.
-fn stored<R: Abort + Drop>(
-    rt: R,
-    alloc: Global,
-    met: usize,
-    fails: usize,
-) -> Result<(Vec<u8>, Result<(), Stop>), Fail> {
-    let mut files = KeptFiles {
-        rt,
-        alloc,
-        met,
-        fails,
-        asked: Vec::new(alloc),
-        refusals: 0,
-    };
-    let ended = store_file(&mut files, alloc, &[], b"a", b"bytes");
-    Ok((letters_of(alloc, &files.asked)?, ended))
-}
-
 // Each request fails in turn. A file that wasn't synced takes no name, and no other file is left; names beside that
 // something has stay.
 #[test]
 fn a_store_stops_at_the_first_failure(rt: HostRuntime) -> Result<(), Fail> {
+    let alloc = rt.alloc();
     let rows = [
         (0, 0, "lmwsrf", Ok(())),
         (0, 2, "lm", Err(Stop::Made)),
@@ -212,8 +186,20 @@ fn a_store_stops_at_the_first_failure(rt: HostRuntime) -> Result<(), Fail> {
         (2, 0, "leemwsrf", Ok(())),
     ];
     for (met, fails, asked, ended) in rows {
-        let (letters, found) = stored(rt.clone()?, rt.alloc(), met, fails)?;
-        assert_eq!(rt; found, ended, "{asked}");
+        let mut files = KeptFiles {
+            rt: rt.clone()?,
+            alloc,
+            met,
+            fails,
+            asked: Vec::new(alloc),
+            refusals: 0,
+        };
+        let stored = store_file(&mut files, alloc, &[], b"a", b"bytes");
+        assert_eq!(rt; stored, ended, "{asked}");
+        let mut letters = Vec::new(alloc);
+        for kept in &files.asked {
+            letters.push(letter(&kept.ask))?;
+        }
         assert_eq!(rt; letters.as_slice(), asked.as_bytes(), "at {asked}");
     }
     Ok(())

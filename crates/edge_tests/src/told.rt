@@ -14,43 +14,18 @@ use std::process::Abort;
 use std::rc::Rc;
 use std::test::Fail;
 
-// How a run of words ends, and the folder that it leaves.
-fn ended<R: Abort + Drop>(
+// A run of words, of which the status is kept.
+fn status_of<R: Abort + Drop>(
     alloc: Global,
     words: &[String],
     opener: MemFiles<R>,
     input: &mut MemSource,
     output: &mut MemSink,
-) -> (Status, MemFolder<R>) {
+) -> Status {
     match run_files(alloc, words, opener, input, output) {
-        Ok((status, _shelf, files, _entropy)) => (status, files.into_opener().folder),
-        Err((opener, _)) => (Status::NoMemory, opener.folder),
+        Ok((status, _shelf, _files, _entropy)) => status,
+        Err(_) => Status::NoMemory,
     }
-}
-
-fn words_of(alloc: Global, words: &[&str]) -> Result<Vec<String>, Fail> {
-    let mut texts = Vec::new(alloc);
-    for word in words {
-        texts.push(String::from_str(alloc, word)?)?;
-    }
-    Ok(texts)
-}
-
-fn no_changes(alloc: Global) -> Result<Changes, AllocError> {
-    Ok(Rc::new(alloc, RefCell::new(Vec::new(alloc)))?)
-}
-
-// Files of whose image of this number the events are seen; these calls of it fail.
-fn seen_files<R: Abort + Drop>(
-    rt: R,
-    alloc: Global,
-    fails: &[FailAt],
-    watched: u64,
-    seen: &Seen,
-) -> Result<MemFiles<R>, Fail> {
-    let fails = Vec::from_slice(alloc, fails)?;
-    let changes = no_changes(alloc)?;
-    Ok(MemFiles::new(rt, alloc, fails, watched, seen.clone()?, changes)?)
 }
 
 // A script over the image; these calls of the image fail.
@@ -62,10 +37,19 @@ fn run_script<R: Abort + Drop>(
     output: &mut MemSink,
     seen: &Seen,
 ) -> Result<Status, Fail> {
-    let words = words_of(alloc, &["script", "a.img"])?;
+    let opener = MemFiles::new(
+        rt,
+        alloc,
+        Vec::from_slice(alloc, fails)?,
+        1,
+        seen.clone()?,
+        Rc::new(alloc, RefCell::new(Vec::new(alloc)))?,
+    )?;
+    let mut words = Vec::new(alloc);
+    words.push(String::from_str(alloc, "script")?)?;
+    words.push(String::from_str(alloc, "a.img")?)?;
     let mut input = MemSource::new(alloc, script, &[], &[])?;
-    let opener = seen_files(rt, alloc, fails, 1, seen)?;
-    Ok(ended(alloc, &words, opener, &mut input, output).0)
+    Ok(status_of(alloc, &words, opener, &mut input, output))
 }
 
 // SHA-256 of events: of a write `W`, the number as eight bytes, least significant first, and the bytes; of a flush `F`.
@@ -106,97 +90,94 @@ fn joined(alloc: Global, parts: &[&str]) -> Result<Vec<u8>, AllocError> {
     Ok(script)
 }
 
-// How a script on a new provider ends, and what it prints in this room, if these calls of its image fail.
-fn replies<R: Abort + Drop>(
-    rt: R,
-    alloc: Global,
-    fails: &[FailAt],
-    parts: &[&str],
-    room: u64,
-    seen: &Seen,
-) -> Result<(Status, MemSink), Fail> {
-    let script = joined(alloc, parts)?;
-    let mut output = MemSink::new(alloc, &[], &[], room)?;
-    let status = run_script(rt, alloc, fails, &script, &mut output, seen)?;
-    Ok((status, output))
-}
-
-fn are_those_of_the_session(rt: &impl Abort, seen: &Seen) -> Result<(), Fail> {
+// The session of the acceptance cases, through all of the program but what opens files: its output, and each event of
+// the image.
+#[test]
+fn an_ordinary_session_leaves_its_bytes(rt: HostRuntime) -> Result<(), Fail> {
+    let alloc = rt.alloc();
+    let seen: Seen = Rc::new(alloc, RefCell::new(Vec::new(alloc)))?;
+    let mut output = MemSink::new(alloc, &[], &[], 40000)?;
+    let script = joined(alloc, &SESSION)?;
+    let status = run_script(rt.clone()?, alloc, &[], &script, &mut output, &seen)?;
+    assert!(rt; status == Status::SomeRefused);
+    assert_eq!(rt; Sha256::digest(output.bytes()), OUTPUT);
     let events = seen.try_borrow()?;
     assert_eq!(rt; events.len(), 14);
     assert_eq!(rt; digest_of(&events), EVENTS);
     Ok(())
 }
 
-// The session of the acceptance cases, through all of the program but what opens files: its output, and each event of
-// the image.
-#[test]
-fn an_ordinary_session_leaves_its_bytes(rt: HostRuntime) -> Result<(), Fail> {
-    let seen = none_seen(rt.alloc())?;
-    let (status, output) = replies(rt.clone()?, rt.alloc(), &[], &SESSION, 40000, &seen)?;
-    assert!(rt; status == Status::SomeRefused);
-    assert_eq!(rt; Sha256::digest(output.bytes()), OUTPUT);
-    are_those_of_the_session(&rt, &seen)
-}
-
-fn end_with_the_fourth_sector(rt: &impl Abort, seen: &Seen) -> Result<(), Fail> {
-    let events = seen.try_borrow()?;
-    assert_eq!(rt; events.len(), 8);
-    assert!(rt; matches!(events.get(6), Some(Event::Write { n: 2035, .. })));
-    Ok(())
+// What a script on a new provider prints and leaves if these calls of its image fail.
+fn replies<R: Abort + Drop>(
+    rt: R,
+    alloc: Global,
+    fails: &[FailAt],
+    parts: &[&str],
+    seen: &Seen,
+) -> Result<MemSink, Fail> {
+    let mut output = MemSink::new(alloc, &[], &[], 4096)?;
+    let script = joined(alloc, parts)?;
+    let _ = run_script(rt, alloc, fails, &script, &mut output, seen)?;
+    Ok(output)
 }
 
 // The sixth write of a sector fails, the fifth of eight that are one write of the file: its first four sectors are
 // left.
 #[test]
 fn a_write_that_fails_leaves_its_front(rt: HostRuntime) -> Result<(), Fail> {
+    let alloc = rt.alloc();
     let fails = [FailAt {
         kind: CallKind::Write,
         nth: 6,
         lands: false,
     }];
-    let parts = ["write a.img 254 ", "\n"];
-    let seen = none_seen(rt.alloc())?;
-    let (_, output) = replies(rt.clone()?, rt.alloc(), &fails, &parts, 4096, &seen)?;
+    let seen: Seen = Rc::new(alloc, RefCell::new(Vec::new(alloc)))?;
+    let output = replies(
+        rt.clone()?,
+        alloc,
+        &fails,
+        &["write a.img 254 ", "\n"],
+        &seen,
+    )?;
     assert_eq!(rt;
         output.bytes(),
         b"ok\nok\nerror 26 DeviceFault\n".as_slice()
     );
-    end_with_the_fourth_sector(&rt, &seen)
-}
-
-// Three faults are printed after two commands that are done.
-fn are_three_faults(rt: &impl Abort, bytes: &[u8]) {
-    let fault = "error 26 DeviceFault\n";
-    assert!(rt; bytes.starts_with(b"ok\nok\nerror 26 DeviceFault\nerror 26 DeviceFault\n"));
-    assert_eq!(rt; bytes.len(), 6 + 3 * fault.len());
+    let events = seen.try_borrow()?;
+    assert_eq!(rt; events.len(), 8);
+    assert!(rt; matches!(events.get(6), Some(Event::Write { n: 2035, .. })));
+    Ok(())
 }
 
 // The third sync fails, and no later one is asked for: the flush after it and the closing fail too.
 #[test]
 fn after_a_sync_that_failed_none_is_answered(rt: HostRuntime) -> Result<(), Fail> {
+    let alloc = rt.alloc();
     let fails = [FailAt {
         kind: CallKind::Flush,
         nth: 3,
         lands: false,
     }];
-    let parts = ["flush a.img\nflush a.img\n"];
-    let seen = none_seen(rt.alloc())?;
-    let (_, output) = replies(rt.clone()?, rt.alloc(), &fails, &parts, 4096, &seen)?;
-    are_three_faults(&rt, output.bytes());
+    let seen: Seen = Rc::new(alloc, RefCell::new(Vec::new(alloc)))?;
+    let output = replies(
+        rt.clone()?,
+        alloc,
+        &fails,
+        &["flush a.img\nflush a.img\n"],
+        &seen,
+    )?;
+    let fault = "error 26 DeviceFault\n";
+    assert!(rt;
+        output
+            .bytes()
+            .starts_with(b"ok\nok\nerror 26 DeviceFault\nerror 26 DeviceFault\n")
+    );
+    assert_eq!(rt; output.bytes().len(), 6 + 3 * fault.len());
     assert_eq!(rt; seen.try_borrow()?.len(), 3);
     Ok(())
 }
 
-// Whether an image takes a sector that is flushed, and a second flush.
-fn takes_two<D: Disk>(image: &mut D, n: u64) -> bool {
-    n < image.sectors()
-        && image.write(n, &[9; 512]).is_ok()
-        && image.flush().is_ok()
-        && image.flush().is_ok()
-}
-
-// The same of the image of a name.
+// Whether the image of a name takes a sector that is flushed, and a second flush.
 fn takes_two_flushes<R: Abort + Drop>(
     rt: R,
     alloc: Global,
@@ -204,38 +185,46 @@ fn takes_two_flushes<R: Abort + Drop>(
     n: u64,
     seen: &Seen,
 ) -> Result<bool, Fail> {
+    let mut opener = MemFiles::new(
+        rt,
+        alloc,
+        Vec::new(alloc),
+        4,
+        seen.clone()?,
+        Rc::new(alloc, RefCell::new(Vec::new(alloc)))?,
+    )?;
     let mut files = Vec::new(alloc);
-    let mut opener = seen_files(rt, alloc, &[], 4, seen)?;
     let mut image = open_image(alloc, &mut opener, &mut files, true, name)?;
-    Ok(takes_two(&mut image, n))
-}
-
-fn are_a_write_and_two_syncs(rt: &impl Abort, name: &str, seen: &Seen) -> Result<(), Fail> {
-    let events = seen.try_borrow()?;
-    assert_eq!(rt; events.len(), 3, "{name}");
-    assert!(rt;
-        matches!(events.first(), Some(Event::Write { n: 7, .. })),
-        "{name}"
-    );
-    assert!(rt; matches!(events.get(1), Some(Event::Flush)), "{name}");
-    assert!(rt; matches!(events.get(2), Some(Event::Flush)), "{name}");
-    Ok(())
+    Ok(
+        n < image.sectors()
+            && image.write(n, &[9; 512]).is_ok()
+            && image.flush().is_ok()
+            && image.flush().is_ok(),
+    )
 }
 
 // A flush of a layer syncs its files: that of `behind:` after the waiting write, that of `join:` also the second file.
 #[test]
 fn a_flush_of_a_layer_syncs_its_files(rt: HostRuntime) -> Result<(), Fail> {
+    let alloc = rt.alloc();
     for (name, n) in [
         ("b.img", 7),
         ("behind:b.img", 7),
         ("join:a.img:b.img", 2055),
     ] {
-        let seen = none_seen(rt.alloc())?;
+        let seen = none_seen(alloc)?;
         assert!(&rt;
-            takes_two_flushes(rt.clone()?, rt.alloc(), name, n, &seen)?,
+            takes_two_flushes(rt.clone()?, alloc, name, n, &seen)?,
             "{name}"
         );
-        are_a_write_and_two_syncs(&rt, name, &seen)?;
+        let events = seen.try_borrow()?;
+        assert_eq!(&rt; events.len(), 3, "{name}");
+        assert!(&rt;
+            matches!(events.first(), Some(Event::Write { n: 7, .. })),
+            "{name}"
+        );
+        assert!(&rt; matches!(events.get(1), Some(Event::Flush)), "{name}");
+        assert!(&rt; matches!(events.get(2), Some(Event::Flush)), "{name}");
     }
     Ok(())
 }
@@ -263,7 +252,9 @@ struct Given<'a> {
 
 // The folder before a run.
 fn folder<R: Abort + Drop>(rt: R, alloc: Global) -> Result<MemFolder<R>, Fail> {
-    Ok(seen_files(rt, alloc, &[], 1, &none_seen(alloc)?)?.folder)
+    let changes: Changes = Rc::new(alloc, RefCell::new(Vec::new(alloc)))?;
+    let files = MemFiles::new(rt, alloc, Vec::new(alloc), 1, none_seen(alloc)?, changes)?;
+    Ok(files.folder)
 }
 
 // How such a run of words ends, and the folder that it leaves.
@@ -273,12 +264,26 @@ fn end_of<R: Abort + Drop>(
     given: Given<'_>,
     changes: &Changes,
 ) -> Result<(Status, MemFolder<R>), Fail> {
-    let words = words_of(alloc, given.words)?;
+    let opener = MemFiles::new(
+        rt,
+        alloc,
+        Vec::new(alloc),
+        1,
+        none_seen(alloc)?,
+        changes.clone()?,
+    )?;
+    let mut words = Vec::new(alloc);
+    for word in given.words {
+        words.push(String::from_str(alloc, word)?)?;
+    }
     let mut input = MemSource::new(alloc, given.input, &[], given.fails)?;
     let mut output = MemSink::new(alloc, &[], &[], given.room)?;
-    let changes = changes.clone()?;
-    let opener = MemFiles::new(rt, alloc, Vec::new(alloc), 1, none_seen(alloc)?, changes)?;
-    Ok(ended(alloc, &words, opener, &mut input, &mut output))
+    Ok(
+        match run_files(alloc, &words, opener, &mut input, &mut output) {
+            Ok((status, _shelf, files, _entropy)) => (status, files.into_opener().folder),
+            Err((opener, _)) => (Status::NoMemory, opener.folder),
+        },
+    )
 }
 
 // How a run is to end: its status, what it asks of names, and the name that it stores, which is empty if there is none.
@@ -306,7 +311,7 @@ fn asks<R: Abort + Drop>(
     given: Given<'_>,
     wanted: Wanted<'_>,
 ) -> Result<bool, Fail> {
-    let changes = no_changes(alloc)?;
+    let changes: Changes = Rc::new(alloc, RefCell::new(Vec::new(alloc)))?;
     let (status, folder) = end_of(rt, alloc, given, &changes)?;
     let asked = changes.try_borrow()?;
     Ok(
@@ -362,21 +367,16 @@ fn a_run_that_ends_early_changes_no_name(rt: HostRuntime) -> Result<(), Fail> {
     let alloc = rt.alloc();
     let before = folder(rt.clone()?, alloc)?;
     let long = vec![in alloc; b'x'; 300_001]?;
-    let rows = [
-        (
-            alone(&["destroy", "a.img"], 999),
-            end(Status::BadWords, b"o"),
-        ),
-        (over(b"list\n", &[1]), end(Status::ReadFault, b"Oo")),
-        (alone(&["dump", "a.img"], 0), end(Status::WriteFault, b"oo")),
-        (over(&long, &[]), end(Status::LineTooLong, b"Oo")),
-    ];
-    for (i, (given, wanted)) in rows.iter().enumerate() {
-        assert!(&rt;
-            asks(rt.clone()?, alloc, &before, *given, *wanted)?,
-            "row {i}"
-        );
-    }
+    let usage = end(Status::BadWords, b"o");
+    let destroy = alone(&["destroy", "a.img"], 999);
+    assert!(rt; asks(rt.clone()?, alloc, &before, destroy, usage)?);
+    let unread = end(Status::ReadFault, b"Oo");
+    assert!(rt; asks(rt.clone()?, alloc, &before, over(b"list\n", &[1]), unread)?);
+    let unprinted = end(Status::WriteFault, b"oo");
+    let dump = alone(&["dump", "a.img"], 0);
+    assert!(rt; asks(rt.clone()?, alloc, &before, dump, unprinted)?);
+    let too_long = end(Status::LineTooLong, b"Oo");
+    assert!(rt; asks(rt.clone()?, alloc, &before, over(&long, &[]), too_long)?);
     Ok(())
 }
 
@@ -401,32 +401,28 @@ fn has(bytes: &[u8], part: &[u8]) -> bool {
     false
 }
 
-// Gives key files: of 2,000 bytes, of as many of which the first 600 are equal, and of just those 600.
-fn give_keys<R: Abort + Drop>(alloc: Global, folder: &mut MemFolder<R>) -> Result<(), AllocError> {
+// A run over both images, and what it printed.
+fn over_both<R: Abort + Drop>(rt: R, alloc: Global, script: &[u8]) -> Result<MemSink, Fail> {
+    let changes: Changes = Rc::new(alloc, RefCell::new(Vec::new(alloc)))?;
+    let mut opener = MemFiles::new(rt, alloc, Vec::new(alloc), 1, none_seen(alloc)?, changes)?;
+    opener
+        .folder
+        .give("long", None, Some(counted(alloc, 2000)?));
     let mut other = counted(alloc, 600)?;
     for _ in 600..2000 {
         other.push(7)?;
     }
-    folder.give("other", None, Some(other));
-    folder.give("long", None, Some(counted(alloc, 2000)?));
-    folder.give("front", None, Some(counted(alloc, 600)?));
-    Ok(())
-}
-
-// Files with these keys.
-fn files_with_keys<R: Abort + Drop>(rt: R, alloc: Global) -> Result<MemFiles<R>, Fail> {
-    let mut files = seen_files(rt, alloc, &[], 1, &none_seen(alloc)?)?;
-    give_keys(alloc, &mut files.folder)?;
-    Ok(files)
-}
-
-// A run over both images, and what it printed.
-fn over_both<R: Abort + Drop>(rt: R, alloc: Global, script: &[u8]) -> Result<MemSink, Fail> {
-    let words = words_of(alloc, &["script", "a.img", "b.img"])?;
+    opener.folder.give("other", None, Some(other));
+    opener
+        .folder
+        .give("front", None, Some(counted(alloc, 600)?));
+    let mut words = Vec::new(alloc);
+    for word in ["script", "a.img", "b.img"] {
+        words.push(String::from_str(alloc, word)?)?;
+    }
     let mut input = MemSource::new(alloc, script, &[], &[])?;
     let mut output = MemSink::new(alloc, &[], &[], 40000)?;
-    let opener = files_with_keys(rt, alloc)?;
-    let _ = ended(alloc, &words, opener, &mut input, &mut output);
+    let _ = status_of(alloc, &words, opener, &mut input, &mut output);
     Ok(output)
 }
 
@@ -442,23 +438,18 @@ fn two_providers_take_successive_random_bytes(rt: HostRuntime) -> Result<(), Fai
     Ok(())
 }
 
-// A provider is made with one key file, and attached with each.
-fn key_script(alloc: Global) -> Result<Vec<u8>, AllocError> {
+// A key file of 2,000 bytes opens what was made with it. One of which only the first 600 bytes are equal doesn't, nor
+// do those 600 bytes.
+#[test]
+fn a_key_file_counts_to_its_end(rt: HostRuntime) -> Result<(), Fail> {
+    let alloc = rt.alloc();
     let mut script = Vec::from_slice(alloc, b"init -P -K long a.img\n")?;
     for key in ["other", "front", "long"] {
         script.extend_from_slice(b"attach -C -p -k ")?;
         script.extend_from_slice(key.as_bytes())?;
         script.extend_from_slice(b" a.img\n")?;
     }
-    Ok(script)
-}
-
-// A key file of 2,000 bytes opens what was made with it. One of which only the first 600 bytes are equal doesn't, nor
-// do those 600 bytes.
-#[test]
-fn a_key_file_counts_to_its_end(rt: HostRuntime) -> Result<(), Fail> {
-    let script = key_script(rt.alloc())?;
-    let output = over_both(rt.clone()?, rt.alloc(), &script)?;
+    let output = over_both(rt.clone()?, alloc, &script)?;
     assert_eq!(rt;
         output.bytes(),
         b"ok\nerror 15 WrongKey\nerror 15 WrongKey\nok\n".as_slice()

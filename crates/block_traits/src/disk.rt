@@ -1,5 +1,5 @@
 //! A disk of 512-byte sectors, described by what it held at first and what was done to it since.
-ghost use Rattle.std.specs.Prelude.{◌≡◌, ◌+◌, ◌*◌, ◌/◌, ◌%◌, ◌<◌, ◌≤◌, ◌∷◌, [], OnOk, OnErr, is_some, length, option_copied, true};
+ghost use Rattle.std.specs.Prelude.{◌≡◌, ◌+◌, ◌*◌, ◌/◌, ◌%◌, ◌<◌, ◌≤◌, ◌∷◌, [], Bool, OnOk, OnErr, false, is_some, length, option_copied, true};
 ghost use Rattle.block_traits.specs.Causes.{Counted};
 ghost use Rattle.block_traits.specs.Disk.{DiskState, FailsIn, Gives, GivesEach, IsHistory, Logs, write_events};
 ghost use Rattle.block_traits.specs.Parts.{part};
@@ -36,6 +36,9 @@ pub trait Disk: Drop {
     /// it does always or never. A count of faults, which never falls. A count of the reads that the disk was asked for
     /// and of those that looks have served. What the disk reports is well formed.
     ghost state: { Self → DiskState };
+
+    /// Whether room was wanting at the last write that failed; a disk that doesn't know says no.
+    ghost wants_room: { Self → Bool } = { λ _. false };
 
     /// The size in sectors.
     fn sectors(&self) -> u64
@@ -98,11 +101,16 @@ pub trait Disk: Drop {
     fn events(&self) -> Option<&[Event]>
         ensures shown { is_some result ≡ (state self.now).shows }
         ensures history { IsHistory (state self.now).content (option_copied result) };
+
+    /// Whether room was wanting at the last write that failed. It counts nothing and changes nothing.
+    fn wants_room(&self) -> bool
+        ensures { result ≡ wants_room self.now };
 }
 
 /// A boxed disk is the disk in it.
 impl Disk for Box<dyn Disk> {
     ghost state = { λ b. (Disk-box b).state b.value };
+    ghost wants_room = { λ b. (Disk-box b).wants_room b.value };
 
     fn sectors(&self) -> u64 {
         (**self).sectors()
@@ -134,5 +142,9 @@ impl Disk for Box<dyn Disk> {
 
     fn events(&self) -> Option<&[Event]> {
         (**self).events()
+    }
+
+    fn wants_room(&self) -> bool {
+        (**self).wants_room()
     }
 }

@@ -243,4 +243,8 @@ impl Disk for MemDisk {
     fn events(&self) -> Option<&[Event]> {
         Some(self.log.events())
     }
+
+    fn wants_room(&self) -> bool {
+        false
+    }
 }

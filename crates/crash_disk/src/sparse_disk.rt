@@ -237,4 +237,8 @@ impl Disk for SparseDisk {
     fn events(&self) -> Option<&[Event]> {
         Some(self.log.events())
     }
+
+    fn wants_room(&self) -> bool {
+        false
+    }
 }

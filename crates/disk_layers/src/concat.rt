@@ -169,4 +169,8 @@ impl<A: Disk, B: Disk> Disk for Concat<A, B> {
     fn events(&self) -> Option<&[Event]> {
         None
     }
+
+    fn wants_room(&self) -> bool {
+        false
+    }
 }

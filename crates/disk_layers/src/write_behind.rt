@@ -284,4 +284,8 @@ impl<D: Disk> Disk for WriteBehind<D> {
     fn events(&self) -> Option<&[Event]> {
         None
     }
+
+    fn wants_room(&self) -> bool {
+        false
+    }
 }

@@ -61,4 +61,8 @@ impl Disk for SeenDisk {
     fn events(&self) -> Option<&[Event]> {
         self.disk.events()
     }
+
+    fn wants_room(&self) -> bool {
+        false
+    }
 }

@@ -432,4 +432,8 @@ impl<F: ImageFile + Drop> Disk for FileDisk<F> {
     fn events(&self) -> Option<&[Event]> {
         None
     }
+
+    fn wants_room(&self) -> bool {
+        false
+    }
 }

@@ -94,4 +94,8 @@ impl Disk for RunDisk {
             RunDisk::Provider(disk) => disk.events(),
         }
     }
+
+    fn wants_room(&self) -> bool {
+        false
+    }
 }

@@ -101,4 +101,8 @@ impl Disk for TracedDisk {
     fn events(&self) -> Option<&[Event]> {
         self.disk.events()
     }
+
+    fn wants_room(&self) -> bool {
+        false
+    }
 }

@@ -56,6 +56,10 @@ impl Disk for CountingDisk {
     fn events(&self) -> Option<&[Event]> {
         self.disk.events()
     }
+
+    fn wants_room(&self) -> bool {
+        false
+    }
 }
 
 /// What runs are given beside their words and their output.

@@ -120,4 +120,8 @@ impl<F: ImageFile + Drop> Disk for ImageDisk<F> {
             ImageDisk::Join(disk) => disk.events(),
         }
     }
+
+    fn wants_room(&self) -> bool {
+        false
+    }
 }

@@ -88,4 +88,8 @@ impl<D: Disk> Disk for ProviderDisk<D> {
     fn events(&self) -> Option<&[Event]> {
         None
     }
+
+    fn wants_room(&self) -> bool {
+        false
+    }
 }

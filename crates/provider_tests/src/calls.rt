@@ -131,6 +131,10 @@ impl Disk for LookingDisk {
     fn events(&self) -> Option<&[Event]> {
         None
     }
+
+    fn wants_room(&self) -> bool {
+        false
+    }
 }
 
 // A provider of logical sectors of 4,096 bytes, attached upon such a disk, and the calls of the disk.

@@ -193,6 +193,13 @@ impl<D: Disk> Provider<D> {
         self.readonly
     }
 
+    /// Whether room was wanting at the last write of the disk that failed. It counts nothing and changes nothing.
+    pub fn wants_room(&self) -> bool
+        ensures { result ≡ D.wants_room self.now.disk }
+    {
+        self.disk.wants_room()
+    }
+
     /// The cipher of its keying.
     pub fn cipher(&self) -> Cipher
         ensures { result ≡ self.now.keying.cipher }

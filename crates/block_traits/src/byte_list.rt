@@ -2,11 +2,19 @@
 ghost use Rattle.std.specs.Prelude.{◌≡◌, List, ℕ};
 
 use std::marker::Model;
+use wiping::wipe;
 
-/// Bytes in memory.
-#[derive(Debug, Drop)]
+/// Bytes in memory, which are overwritten when they are let go: they may be a passphrase or a key file.
+#[derive(Debug)]
 pub struct ByteList {
     bytes: Vec<u8>,
+}
+
+impl Drop for ByteList {
+    fn drop(self) {
+        let ByteList { mut bytes } = self;
+        wipe(bytes.as_mut_slice());
+    }
 }
 
 impl Model for ByteList {

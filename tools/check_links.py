@@ -22,7 +22,8 @@ PICTURE = re.compile(r"\w+\.svg\b")
 
 
 def pages(root):
-    return sorted(it for it in [root / "README.md", *root.glob("docs/**/*.md"), *root.glob("crates/*/README.md")]
+    return sorted(it for it in [root / "README.md", *root.glob("docs/**/*.md"), *root.glob("crates/*/README.md"),
+                   *root.glob("examples/README.md"), *root.glob("packaging/README.md")]
                   if it.is_file())
 
 

@@ -1,5 +1,6 @@
 #!/usr/bin/env python3
-"""Looks for dead names and long lines in the pages: README.md, docs/*.md and crates/*/README.md; for wrong bodies; and
+"""Looks for dead names and long lines in the pages: README.md, docs/*.md and the README.md of crates/*,
+examples and packaging; for wrong bodies; and
 for destructors.
 
     tools/check_pages.py [PAGE...]
@@ -33,7 +34,7 @@ from layer_layout import direct, uses_of
 ROOT = Path(__file__).resolve().parent.parent
 COLUMNS, WORDS, README_BYTES = 120, 40, 7168
 
-PAGE = re.compile(r"README\.md|docs/[^/]*\.md|crates/[^/]*/README\.md")
+PAGE = re.compile(r"README\.md|docs/[^/]*\.md|(?:crates/[^/]*|examples|packaging)/README\.md")
 NAME = re.compile(r"[A-Za-z_]\w*(?:(?:::|/)[A-Za-z_]\w*)*(?:\(\))?")
 PATH = re.compile(r"(?<![\w./-])(?:crates|docs|tools|specs|src|proofs|must-fail|examples|cases|man|bench|completions)/"
                   r"[\w./-]*\w")

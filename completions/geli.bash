@@ -24,7 +24,7 @@ _geli_letters() {
 _geli_operand() {
     case $1:$2 in
         list:0) ;;
-        submit:1) COMPREPLY=($(compgen -W 'read write flush' -- "$3")) ;;
+        submit:1) mapfile -t COMPREPLY < <(compgen -W 'read write flush' -- "$3") ;;
         *:0 | backup:1 | restore:1 | verify:1) _geli_files "$3" ;;
     esac
 }
@@ -62,12 +62,12 @@ _geli_words() {
 # What may stand behind an option with a value, of this verb.
 _geli_value() {
     case $1 in
-        a) COMPREPLY=($(compgen -W 'HMAC/SHA256 HMAC/SHA384 HMAC/SHA512' -- "$2")) ;;
-        e) COMPREPLY=($(compgen -W 'AES-XTS AES-CBC' -- "$2")) ;;
-        l) COMPREPLY=($(compgen -W '128 192 256' -- "$2")) ;;
-        n) COMPREPLY=($(compgen -W '0 1' -- "$2")) ;;
-        i) COMPREPLY=($(compgen -W '100000 1000000' -- "$2")) ;;
-        s) [ "$3" = resize ] || COMPREPLY=($(compgen -W '512 1024 2048 4096 8192 16384 32768 65536' -- "$2")) ;;
+        a) mapfile -t COMPREPLY < <(compgen -W 'HMAC/SHA256 HMAC/SHA384 HMAC/SHA512' -- "$2") ;;
+        e) mapfile -t COMPREPLY < <(compgen -W 'AES-XTS AES-CBC' -- "$2") ;;
+        l) mapfile -t COMPREPLY < <(compgen -W '128 192 256' -- "$2") ;;
+        n) mapfile -t COMPREPLY < <(compgen -W '0 1' -- "$2") ;;
+        i) mapfile -t COMPREPLY < <(compgen -W '100000 1000000' -- "$2") ;;
+        s) [ "$3" = resize ] || mapfile -t COMPREPLY < <(compgen -W '512 1024 2048 4096 8192 16384 32768 65536' -- "$2") ;;
         *) _geli_files "$2" ;;
     esac
 }
@@ -79,7 +79,7 @@ _geli() {
     cur=${words[place]} verb=${words[1]}
     COMPREPLY=()
     if ((place == 1)); then
-        COMPREPLY=($(compgen -W "$_geli_verbs" -- "$cur"))
+        mapfile -t COMPREPLY < <(compgen -W "$_geli_verbs" -- "$cur")
         return
     fi
     if [ "$verb" = script ]; then
@@ -119,7 +119,7 @@ _geli() {
         local options=
         for ((at = 0; at < ${#alone}; at++)); do options+=" -${alone:at:1}"; done
         for ((at = 0; at < ${#valued}; at++)); do options+=" -${valued:at:1}"; done
-        COMPREPLY=($(compgen -W "$options" -- "$cur"))
+        mapfile -t COMPREPLY < <(compgen -W "$options" -- "$cur")
         return
     fi
     _geli_operand "$verb" "$operands" "$cur"

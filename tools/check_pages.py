@@ -36,7 +36,7 @@ COLUMNS, WORDS, README_BYTES = 120, 40, 7168
 
 PAGE = re.compile(r"README\.md|docs/[^/]*\.md|(?:crates/[^/]*|examples|packaging)/README\.md")
 NAME = re.compile(r"[A-Za-z_]\w*(?:(?:::|/)[A-Za-z_]\w*)*(?:\(\))?")
-PATH = re.compile(r"(?<![\w./-])(?:crates|docs|tools|specs|src|proofs|must-fail|examples|cases|man|bench|completions)/"
+PATH = re.compile(r"(?<![\w./-])(?:crates|docs|tools|specs|src|proofs|must-fail|examples|man|bench|completions)/"
                   r"[\w./-]*\w")
 CODE = re.compile(r"`([^`]+)`")
 ITEM = re.compile(r"\s*(?:[-*]|\d+\.) ")

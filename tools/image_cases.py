@@ -1,7 +1,7 @@
 #!/usr/bin/env python3
 """Cases of images of every authentication and sector size, and their transcripts.
 
-    tools/image_cases.py [--check]      writes cases/images.cases and cases/images.expected, or says whether they are equal
+    tools/image_cases.py [--check]      writes images.cases and its transcript, or says whether they are equal
 
 A case has an authentication, or none, and a run has a sector size, with one of the five ciphers and key lengths after the
 other. A provider of two logical sectors is made, and the second is written. The random bytes are the salt 0x80 to 0xbf,
@@ -9,14 +9,12 @@ the master key 0x00 to 0x7f and filler of 0x55; the passphrase is `abc`.
 """
 import argparse
 import hashlib
-import pathlib
 import struct
 import sys
 
+from case_files import differing, put
 from key_model import MASTER, SALT, sector, user_key, wrapped
 from piece_digests import CIPHERS, DATA_KEY, TAGS, piece, sealed
-
-CASES = pathlib.Path(__file__).parent.parent / "cases/images.cases"
 
 FILLER = b"\x55" * 192
 
@@ -95,23 +93,15 @@ def texts():
             lines, told = run(auth, cipher, bits, size, place + 1)
             cases += lines
             transcript += told
-    return {CASES: cases, CASES.with_suffix(".expected"): transcript}
+    return "images", cases, transcript
 
 
 def main():
     options = argparse.ArgumentParser(description=__doc__, formatter_class=argparse.RawDescriptionHelpFormatter)
     options.add_argument("--check", action="store_true", help="compare with the files that are there")
-    check = options.parse_args().check
-    wrong = False
-    for path, lines in texts().items():
-        text = "".join(f"{line}\n" for line in lines)
-        if not check:
-            path.write_text(text, encoding="utf-8")
-            continue
-        equal = path.read_text(encoding="utf-8") == text
-        print(f"{path.name}: {'equal' if equal else 'differs'}")
-        wrong |= not equal
-    sys.exit(wrong)
+    if options.parse_args().check:
+        sys.exit(differing(*texts()))
+    put(*texts())
 
 
 if __name__ == "__main__":

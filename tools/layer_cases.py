@@ -1,7 +1,8 @@
 #!/usr/bin/env python3
-"""The transcript of cases/layers.cases, worked out by the rules of the format and of the layers.
+"""The transcript of layers.cases, worked out by the rules of the format and of the layers.
 
-    tools/layer_cases.py [--check] [CASES]      prints the transcript, or says whether the one beside CASES is equal
+    tools/layer_cases.py            prints the transcript
+    tools/layer_cases.py --check    says whether that of crates/geli_cases is equal
 
 Metadata and sectors are sealed by the `cryptography` of Python, by geli(8) and g_eli.h, without authentication. Lines and replies are as docs/CASES.md and
 docs/REFUSALS.md say, as far as the cases need them: what is met besides ends the model. Keys are derived from one passphrase file, and from the
@@ -11,11 +12,12 @@ import argparse
 import hashlib
 import hmac
 import itertools
-import pathlib
 import struct
 import sys
 
 from cryptography.hazmat.primitives.ciphers import Cipher, algorithms, modes
+
+from case_files import differing, lines_of
 
 PASSPHRASE = b"abc"
 NUMBERS = {"AES-CBC": 11, "AES-XTS": 22}
@@ -445,9 +447,9 @@ class Case:
         return lines + [f"taken {run.taken}"] * bool(run.taken)
 
 
-def transcript(text):
+def transcript(cases):
     case, lines = None, []
-    for line in text.splitlines():
+    for line in cases:
         if not line or line.startswith("#"):
             continue
         head, _, rest = line.partition(" ")
@@ -456,21 +458,17 @@ def transcript(text):
             lines.append(line)
         else:
             lines += case.line(head, rest)
-    return "".join(f"{line}\n" for line in lines)
+    return lines
 
 
 def main():
     options = argparse.ArgumentParser(description=__doc__, formatter_class=argparse.RawDescriptionHelpFormatter)
     options.add_argument("--check", action="store_true", help="compare with the transcript that is there")
-    options.add_argument("cases", nargs="?", type=pathlib.Path, default=pathlib.Path(__file__).parent.parent / "cases/layers.cases")
-    given = options.parse_args()
-    made = transcript(given.cases.read_text(encoding="utf-8"))
-    if not given.check:
-        print(made, end="")
-        return
-    equal = made == given.cases.with_suffix(".expected").read_text(encoding="utf-8")
-    print(f"{given.cases.name}: {'equal' if equal else 'differs'}")
-    sys.exit(not equal)
+    cases = lines_of("layers")
+    made = transcript(cases)
+    if options.parse_args().check:
+        sys.exit(differing("layers", cases, made))
+    print("".join(f"{line}\n" for line in made), end="")
 
 
 if __name__ == "__main__":

@@ -1,18 +1,15 @@
 #!/usr/bin/env python3
 """Cases of other files once more, where the disks give no looks, and their transcripts.
 
-    tools/looks_cases.py [--check]      writes cases/looks.cases and cases/looks.expected, or says whether they are equal
+    tools/looks_cases.py [--check]      writes looks.cases and its transcript, or says whether they are equal
 
 What a run prints is the same with looks and without. So such a case has the lines of the other one and `looks off`,
 and its transcript is the other's, but for the name.
 """
 import argparse
-import pathlib
 import sys
 
-from select_cases import cases_of, transcripts_of
-
-FOLDER = pathlib.Path(__file__).parent.parent / "cases"
+from case_files import cases_of, differing, parts, put
 
 # The file of each case, and its name. They read within a batch of the provider and across batches, with HMAC/SHA256 and
 # without, in every sector size, also where a sector was changed; and they verify.
@@ -31,29 +28,20 @@ def texts():
     cases = ["# Cases of other files, where the disks give no looks, by tools/looks_cases.py."]
     transcript = []
     for stem, name in REPEATED:
-        path = FOLDER / f"{stem}.cases"
-        lines = dict(cases_of(path.read_text(encoding="utf-8")))[name]
-        told = dict(transcripts_of(path.with_suffix(".expected").read_text(encoding="utf-8")))[name]
+        lines = dict(cases_of(stem))[name]
+        told = dict(parts()[stem])[name]
         begin = f"case without-looks-{name}"
         cases += ["", begin, "looks off", *lines[lines.index(f"case {name}") + 1:]]
         transcript += [begin, *told[1:]]
-    return {FOLDER / "looks.cases": cases, FOLDER / "looks.expected": transcript}
+    return "looks", cases, transcript
 
 
 def main():
     options = argparse.ArgumentParser(description=__doc__, formatter_class=argparse.RawDescriptionHelpFormatter)
     options.add_argument("--check", action="store_true", help="compare with the files that are there")
-    check = options.parse_args().check
-    wrong = False
-    for path, lines in texts().items():
-        text = "".join(f"{line}\n" for line in lines)
-        if not check:
-            path.write_text(text, encoding="utf-8")
-            continue
-        equal = path.read_text(encoding="utf-8") == text
-        print(f"{path.name}: {'equal' if equal else 'differs'}")
-        wrong |= not equal
-    sys.exit(wrong)
+    if options.parse_args().check:
+        sys.exit(differing(*texts()))
+    put(*texts())
 
 
 if __name__ == "__main__":

@@ -61,10 +61,10 @@ printf old >b && chmod 644 b
 says "a backup replaces the old one" answers 0 ok init -P -K k.key -B b c.img
 says "  it is the metadata" test "$(tail -c 512 c.img | sha256sum)" = "$(sha256sum <b)"
 says "  its owner alone may read it" test "$(mode b)" = 600
-says "  and no other file is left" test -z "$(ls | grep new)"
+says "  and no other file is left" test -z "$(find . -maxdepth 1 -name '*new*')"
 for left in 0 1 2; do printf left >"b.new$left"; done
 says "files that a crash left are no hindrance" answers 0 ok init -P -K k.key -B b c.img
-says "  and stay" test "$(cat b.new0 b.new1 b.new2; ls | grep -c new)" = leftleftleft3
+says "  and stay" test "$(cat b.new0 b.new1 b.new2) $(names=(*new*) && echo ${#names[@]})" = 'leftleftleft 3'
 rm -f b b.new?
 mkfifo pipe && mkdir sub
 for name in pipe sub /dev/null; do

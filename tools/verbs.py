@@ -124,7 +124,8 @@ def operand_lines():
             may_be = [form[place] for form in verb.forms if place < len(form)]
             fixed = [operand[1:] for operand in may_be if operand.startswith("=")]
             if fixed:
-                others += f"        {name}:{place}) COMPREPLY=($(compgen -W '{' '.join(fixed)}' -- \"$3\")) ;;\n"
+                words = f"compgen -W '{' '.join(fixed)}' -- \"$3\""
+                others += f"        {name}:{place}) mapfile -t COMPREPLY < <({words}) ;;\n"
             elif set(may_be) & set(FILES):
                 files += [f"{name}:{place}"] if place else []
             elif place == 0:

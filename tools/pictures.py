@@ -6,12 +6,15 @@
 - layers.svg: the crates of crates.txt, each above those that it uses; what another one brings has no line.
 - write.svg: the way of a `write` through the crates (STEPS below; each call must stand in its crate's src/).
 - speed.svg: the table of the whole program in docs/PERFORMANCE.md, as bench/whole.py prints it.
+- crash.svg: what `read` says after a power failure, by the transcript of an acceptance case that the gate runs.
 
 Without --check the pictures are written; with it each is compared, and the status is 1 where one differs.
 """
+import hashlib
 import re
 import sys
 
+import case_files
 from drawing import ROOT, box, label, made, picture, text_of
 from layer_layout import direct, ordered, ranks, reach, spread, uses_of, with_threads
 
@@ -206,5 +209,91 @@ def speed():
     return picture(int(left + most * scale + 40), top - 24, "The whole program beside C over OpenSSL", parts)
 
 
+# ---- what a power failure leaves
+
+# A sector of 4,096 bytes with HMAC/SHA256 is nine units, each in a device sector of its own; bytes of data in each.
+CASE_FILE, CASE = "torn-and-altered", "authenticated-crash"
+UNITS = [480] * 8 + [256]
+# The case writes COUNT(4096, 1), flushes, and writes COUNT(4096, 101) over it (docs/CASES.md).
+OLD, NEW = 1, 101
+FIRST_MOMENT = 10
+UNIT_WIDTH, CRASH_ROW = 40, 26
+
+
+def counted(first):
+    """The data of a sector, by units."""
+    data = [(first + at) % 251 for at in range(4096)]
+    ends = [sum(UNITS[:number + 1]) for number in range(len(UNITS))]
+    return [bytes(data[end - size:end]) for end, size in zip(ends, UNITS)]
+
+
+def mixtures():
+    """What `read` prints of each mixture of old and new units, by its digest: a letter for each unit."""
+    sides = {"o": counted(OLD), "n": counted(NEW)}
+    for number in range(2 ** len(UNITS)):
+        letters = ["n" if number >> at & 1 else "o" for at in range(len(UNITS))]
+        data = b"".join(sides[letter][at] for at, letter in enumerate(letters))
+        yield hashlib.sha256(b"ok " + data.hex().encode()).hexdigest(), letters
+
+
+def case_lines(lines):
+    at = lines.index("case " + CASE) + 1
+    end = next((number for number in range(at, len(lines)) if lines[number].startswith("case ")), len(lines))
+    return lines[at:end]
+
+
+def survivors():
+    """For each crash of the case that no mixture was picked for: its moment, the unit that was torn, or None, and what
+    `read` then said: a letter for each unit, or the error."""
+    read_as = dict(mixtures())
+    said = iter(case_lines(case_files.transcript_of(CASE_FILE).split("\n")))
+    torn, picks = [], 0
+    for line in case_lines(text_of("crates/geli_cases/data/%s.cases" % CASE_FILE).split("\n")):
+        word, *rest = line.split(" ")
+        if word == "tear":
+            torn.append(int(rest[0]))
+        picks += word == "pick"
+        if word != "survivor":
+            continue
+        is_plain = len(torn) < 2 and not picks
+        if next(it for it in said if it.startswith("survivor ")).endswith(" ok") and is_plain:
+            reply = [it for it in (next(said) for _ in range(3)) if it.startswith("out")][-1]
+            found = reply.removeprefix("out ") if reply.startswith("out error") else read_as[reply.split(" ")[2]]
+            yield int(rest[2]), torn[0] if torn else None, found
+        torn, picks = [], 0
+
+
+def moment_of(moment, torn):
+    done = moment - FIRST_MOMENT
+    if torn is not None:
+        return "within write %d of %d, torn" % (torn + 1, len(UNITS))
+    return "before the first write" if not done else "after write %d of %d" % (done, len(UNITS))
+
+
+def crash():
+    rows = sorted({(moment, torn is not None, torn, str(found)): (moment, torn, found)
+                   for moment, torn, found in survivors()}.values(), key=lambda it: (it[0], it[1] is None))
+    left, top = 236, 108
+    parts = [label(EDGE, 32, "Power fails while a flushed sector is written over", "title"),
+             label(EDGE, 54, "4,096 bytes with HMAC/SHA256: nine units, a device write each. What read says after it:",
+                   "faint")]
+    for x, kind, text in ((left, "code", "as flushed"), (left + 150, "law", "as written later"),
+                          (left + 340, "mark", "a named fault")):
+        parts += [box(x, 68, 26, 16, kind), label(x + 34, 81, text, "small")]
+    for number, (moment, torn, found) in enumerate(rows):
+        y = top + number * CRASH_ROW
+        parts.append(label(left - 12, y + 15, moment_of(moment, torn), "small", "end"))
+        for unit in range(len(UNITS)):
+            if isinstance(found, list):
+                kind = {"o": "code", "n": "law"}[found[unit]]
+            else:
+                kind = "mark" if int(found.rpartition(" ")[2]) // 512 == unit else "test"
+            parts.append(box(left + unit * UNIT_WIDTH, y, UNIT_WIDTH - 4, CRASH_ROW - 5, kind))
+        if not isinstance(found, list):
+            parts.append(label(left + len(UNITS) * UNIT_WIDTH + 6, y + 15, found, "mono small"))
+    return picture(790, top + len(rows) * CRASH_ROW + 16, "What a power failure leaves of a sector", parts)
+
+
 if __name__ == "__main__":
-    sys.exit(made([("layers.svg", layers), ("write.svg", way), ("speed.svg", speed)], sys.argv[1:]))
+    PICTURES = [("layers.svg", layers), ("write.svg", way), ("speed.svg", speed), ("crash.svg", crash)]
+    sys.exit(made(PICTURES, sys.argv[1:]))

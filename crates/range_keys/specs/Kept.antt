@@ -1,5 +1,5 @@
 -- The range keys that a ring keeps, each under its number.
-use Rattle.std.specs.Prelude.{◌≡◌, ℕ, List, Contains}
+use Rattle.std.specs.Prelude.{◌≡◌, ℕ, List, [], ◌∷◌, ◌++◌, Contains}
 use Rattle.eli_base.specs.declared.algorithms.Cipher.{Cipher}
 use Rattle.lru.specs.LruCache.{LruCache}
 use Rattle.range_keys.specs.Keys.{numbered_key, first_part, second_part}
@@ -15,3 +15,12 @@ expanded_key cipher keylen base number =
 pub record AreKept (cipher : Cipher) (keylen : ℕ) (base : List ℕ) (kept : LruCache ℕ RangeKey) : Type 0 where
   pub room : kept.cap ≡ room
   pub each : (number : ℕ) (key : RangeKey) → Contains kept.entries (number, key) → key ≡ expanded_key cipher keylen base number
+
+-- the entry in front has the key of its number, made of this range base, and stands last; of none, none is made
+abbrev pub turned : Cipher → ℕ → List ℕ → List (ℕ × RangeKey) → List (ℕ × RangeKey)
+turned cipher keylen base [] = []
+turned cipher keylen base (e ∷ es) = es ++ (e.0, expanded_key cipher keylen base e.0) ∷ []
+
+pub record Turned (cipher : Cipher) (keylen : ℕ) (base : List ℕ) (old new : LruCache ℕ RangeKey) : Type 0 where
+  pub entries : new.entries ≡ turned cipher keylen base old.entries
+  pub cap : new.cap ≡ old.cap

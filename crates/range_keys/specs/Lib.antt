@@ -1,4 +1,5 @@
 pub mod Keys
+pub mod Holding
 pub mod Kept
 pub mod Lending
 pub mod Numbers

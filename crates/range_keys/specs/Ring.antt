@@ -1,5 +1,5 @@
 -- What a key ring is seen as, and what its fields keep.
-use Rattle.std.specs.Prelude.{◌≡◌, ℕ, ◌%◌, ◌≤◌, List, IsTrue}
+use Rattle.std.specs.Prelude.{◌≡◌, ℕ, ◌%◌, ◌≤◌, List, IsTrue, replicate}
 use Rattle.eli_base.specs.Algorithms.{allows_length}
 use Rattle.eli_base.specs.Geometry.{IsLayoutOf}
 use Rattle.eli_base.specs.Keying.{Keying}
@@ -21,6 +21,10 @@ use Rattle.sha_lanes.specs.declared.prefix.Prefix.{Prefix}
 pub record Ring : Type 0 where
   pub keying : Keying
   pub numbers : List ℕ
+
+-- the keying with a master key of zeros in place of its own
+abbrev pub forgotten : Keying → Keying
+forgotten k = record k { master = replicate 128 0 }
 
 -- the keying of parameters that a provider may have
 pub record IsKeying (k : Keying) : Type 0 where

@@ -4,8 +4,8 @@ ghost use Rattle.std.specs.Prelude.{◌≡◌, IsTrue, IsSome, IfSome, Some, sli
 ghost use Rattle.std.specs.Bool.{OnTrue, OnFalse};
 ghost use Rattle.std.specs.Map.{keys_of};
 ghost use Rattle.eli_base.specs.Algorithms.{allows_length};
-ghost use Rattle.range_keys.specs.Numbers.{AfterUse};
-ghost use Rattle.range_keys.specs.Kept.{AreKept, expanded_key};
+ghost use Rattle.range_keys.specs.Numbers.{AfterUse, room};
+ghost use Rattle.range_keys.specs.Kept.{AreKept, Turned, expanded_key};
 
 use crate::derivation::range_key;
 use crate::expanded::{RangeKey, expanded};
@@ -15,6 +15,7 @@ use lru::LruCache;
 /// Range keys by their number.
 #[derive(Drop)]
 pub struct KeptKeys {
+    // Where it is full, a new key is written over the one that it pushes out.
     pub cache: LruCache<u64, RangeKey>,
     // The last key that there was no memory to keep, from which it is lent.
     pub unkept: Option<RangeKey>,
@@ -43,6 +44,48 @@ impl KeptKeys {
                 false
             }
         }
+    }
+
+    /// Makes each key that stands here that of its number under another base, so that nothing is left of what it was.
+    /// The one that isn't kept becomes that of number 0. Each is overwritten where it stands.
+    pub fn rekey(&mut self, cipher: Cipher, keylen: u16, base: &[u8; 64])
+        requires allowed { IsTrue (allows_length cipher keylen) }
+        requires room { self.old.cache.cap ≡ room }
+        ensures keys { AreKept cipher keylen base.now self.new.cache }
+        ensures numbers { keys_of self.new.cache.entries ≡ keys_of self.old.cache.entries }
+        ensures unkept { IfSome self.new.unkept (λ key. key ≡ expanded_key cipher keylen base.now 0) }
+    {
+        self.rekey_unkept(cipher, keylen, base);
+        for _place in 0..self.cache.len() {
+            self.rekey_first(cipher, keylen, base);
+        }
+    }
+
+    // Makes the key that isn't kept that of number 0 under another base.
+    fn rekey_unkept(&mut self, cipher: Cipher, keylen: u16, base: &[u8; 64])
+        requires allowed { IsTrue (allows_length cipher keylen) }
+        ensures unkept { IfSome self.new.unkept (λ key. key ≡ expanded_key cipher keylen base.now 0) }
+        ensures cache { self.new.cache ≡ self.old.cache }
+    {
+        if let Some(key) = &mut self.unkept {
+            *key = expanded(cipher, keylen, &range_key(base, 0));
+        }
+    }
+
+    // Makes the key in front that of its number under another base, and puts it last.
+    fn rekey_first(&mut self, cipher: Cipher, keylen: u16, base: &[u8; 64])
+        requires allowed { IsTrue (allows_length cipher keylen) }
+        ensures turned { Turned cipher keylen base.now self.old.cache self.new.cache }
+        ensures unkept { self.new.unkept ≡ self.old.unkept }
+    {
+        let Some((number, _)) = self.cache.peek_mru() else {
+            return;
+        };
+        let number = *number;
+        if let Some(key) = self.cache.peek_mut(&number) {
+            *key = expanded(cipher, keylen, &range_key(base, number));
+        }
+        self.cache.demote(&number);
     }
 
     /// Lends the key in front of those that are kept, or the one that isn't.

@@ -9,10 +9,12 @@ ghost use Rattle.range_keys.specs.Keys.{le64};
 
 mod derivation;
 mod expanded;
+mod held;
 mod kept;
 mod ring;
 
 pub use expanded::RangeKey;
+pub use held::HeldRing;
 pub use ring::{KeyRing, Unit};
 
 /// The definitions give these bytes: the byte offset 4608, least significant byte first, and the message whose code is

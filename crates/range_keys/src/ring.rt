@@ -5,8 +5,11 @@
 //! vectors and tag keys begin, and at most sixteen range keys, each under its own number.
 //!
 //! So callers may rely on one thing: a key depends on the keying and the byte offset alone, never on what was asked
-//! before. Contracts see the keying, which no call changes, and the numbers of the kept range keys, the most recently
-//! used first.
+//! before. Contracts see the keying, which `forget` alone changes, and the numbers of the kept range keys, the most
+//! recently used first.
+//!
+//! `forget` makes it the ring of a master key of zeros, and the invariant says of all that it stores that it is that
+//! key's. So nothing of the keys before is left in it.
 //!
 //! A failure leaves no trace for the caller: if there is no memory to keep a new range key, `key_at` lends it from a
 //! field outside the cache (`unkept`). The key is the right one, and the kept numbers stay.
@@ -21,7 +24,7 @@ ghost use Rattle.eli_base.specs.Keying.{keying_of};
 ghost use Rattle.eli_base.specs.Units.{unit_bytes_of, units_per_sector};
 ghost use Rattle.range_keys.specs.Keys.{numbered_block, key_number, first_key, second_key, iv, tag_key};
 ghost use Rattle.range_keys.specs.Numbers.{room};
-ghost use Rattle.range_keys.specs.Ring.{IsKeying};
+ghost use Rattle.range_keys.specs.Ring.{IsKeying, forgotten};
 ghost use Rattle.range_keys.specs.Unit.{IsUnit};
 
 use crate::derivation::{auth_key, digest_at, digests_apart, iv_key, range_base};
@@ -59,8 +62,8 @@ pub struct Unit {
 
 /// The keys of one provider, by byte offset on the device.
 ///
-/// Contracts see the keying that it was made for, which no call changes, and the numbers of the range keys that it
-/// keeps, the most recently used first.
+/// Contracts see the keying that it was made for, which `forget` alone changes, and the numbers of the range keys that
+/// it keeps, the most recently used first.
 #[derive(Drop)]
 pub struct KeyRing {
     params: Params,
@@ -219,6 +222,22 @@ impl KeyRing {
             start,
             end: self.layout.size.min(start + self.layout.unit_bytes),
         }
+    }
+
+    /// Makes it the ring of a master key of zeros. Whatever it has stored of its own is overwritten where it stands.
+    pub fn forget(&mut self)
+        ensures forgotten { self.new.keying ≡ forgotten self.old.keying }
+        ensures numbers { self.new.numbers ≡ self.old.numbers }
+    {
+        let zeros = MasterKey { bytes: [0; 128] };
+        let tag_base = auth_key(&zeros);
+        self.master = zeros;
+        self.range_base = range_base(self.params.version, self.params.auth, &zeros);
+        self.vectors = Sha256::new_with_prefix(iv_key(&zeros));
+        self.tags = Sha256::new_with_prefix(tag_base);
+        self.four_tags = Prefix::of(&tag_base);
+        let (cipher, keylen) = (self.params.cipher, self.params.keylen);
+        self.keys.rekey(cipher, keylen, &self.range_base);
     }
 
     /// The master key.

@@ -4,10 +4,10 @@ use Rattle.std.specs.Map.{lookup}
 use Rattle.eli_base.specs.declared.algorithms.Cipher.{Cipher}
 use Rattle.lru.specs.LruCache.{LruCache, lru_cache, promoted, put_entries}
 use Rattle.lru.proofs.CallerLemmas.{Contains-promoted, Contains-put_entries}
-use Rattle.range_keys.specs.Keys.{numbered_key, first_part, second_part}
 use Rattle.range_keys.specs.Kept.{AreKept, expanded_key}
 use Rattle.range_keys.specs.declared.expanded.RangeKey.{RangeKey}
 use Rattle.range_keys.proofs.Entries.{promoted-found, promoted-missed, put-missed, use-found, use-put, use-refused}
+use Rattle.range_keys.proofs.KeptLemmas.{is-expanded}
 use Rattle.range_keys.proofs.kept.KeptKeys.bring.Goals as goal
 
 promoted-kept : (cipher : Cipher) (keylen : ℕ) (base : List ℕ) (n : ℕ) (old : LruCache ℕ RangeKey) → AreKept cipher keylen base old →
@@ -41,14 +41,6 @@ returns-then-promote-clause-front c =
     let p = promoted-found c.args.number c.args.self.now.cache.entries (sym c.promote.ensures.value ∙ c.if-promote.true) in
     rw c.promote.ensures.entries (ap (λ es. slice_get es 0) p.2 ∙ ap (λ key. Some (c.args.number, key)) (c.requires.keys.each c.args.number p.0 p.1))
 
--- the keys in the bytes of a range key are those of its number
-made : (cipher : Cipher) (keylen : ℕ) (base range : List ℕ) (n : ℕ) (key : RangeKey) → range ≡ numbered_key base n → key.first ≡ first_part keylen range → key.second ≡ second_part cipher keylen range →
-    key ≡ expanded_key cipher keylen base n
-made cipher keylen base range n key of_number first second =
-    let one : key.first ≡ first_part keylen (numbered_key base n) = first ∙ ap (first_part keylen) of_number in
-    let two : key.second ≡ second_part cipher keylen (numbered_key base n) = second ∙ ap (second_part cipher keylen) of_number in
-    (λ i. record { first = one i; second = two i })
-
 -- a look-up that finds nothing leaves the cache
 left_alone : (n : ℕ) (old new : LruCache ℕ RangeKey) → new ≡ lru_cache (promoted (nat_eq n) old.entries) old.cap → is_some (lookup (nat_eq n) old.entries) ≡ false → new ≡ old
 left_alone n old new promotes h = promotes ∙ ap (λ es. lru_cache es old.cap) (promoted-missed n old.entries h)
@@ -57,7 +49,7 @@ pub returns-in-Ok-clause-keys : goal.returns-in-Ok-clause-keys
 returns-in-Ok-clause-keys c =
     let old = c.args.self.now.cache in
     let same = left_alone c.args.number old c.promote.new.self c.promote.ensures.entries (sym c.promote.ensures.value ∙ c.if-promote.false) in
-    let right = made c.args.cipher c.args.keylen c.args.base.now c.range_key.result c.args.number c.expanded-key.result c.range_key.ensures c.expanded-key.ensures.first c.expanded-key.ensures.second in
+    let right = is-expanded c.args.cipher c.args.keylen c.args.base.now c.range_key.result c.args.number c.expanded-key.result c.range_key.ensures c.expanded-key.ensures.first c.expanded-key.ensures.second in
     rw (c.in-Ok.ensures.entries, same) (put-kept c.args.cipher c.args.keylen c.args.base.now c.args.number c.expanded-key.result old right c.requires.keys)
 
 pub returns-in-Ok-clause-numbers : goal.returns-in-Ok-clause-numbers
@@ -72,7 +64,7 @@ returns-in-Ok-clause-front c =
     let old = c.args.self.now.cache in
     let none = sym c.promote.ensures.value ∙ c.if-promote.false in
     let same = left_alone c.args.number old c.promote.new.self c.promote.ensures.entries none in
-    let right = made c.args.cipher c.args.keylen c.args.base.now c.range_key.result c.args.number c.expanded-key.result c.range_key.ensures c.expanded-key.ensures.first c.expanded-key.ensures.second in
+    let right = is-expanded c.args.cipher c.args.keylen c.args.base.now c.range_key.result c.args.number c.expanded-key.result c.range_key.ensures c.expanded-key.ensures.first c.expanded-key.ensures.second in
     rw (c.in-Ok.ensures.entries, same) (ap (λ es. slice_get es 0) (put-missed c.args.number c.expanded-key.result old none) ∙ ap (λ key. Some (c.args.number, key)) right)
 
 pub returns-in-Err-clause-keys : goal.returns-in-Err-clause-keys

@@ -17,8 +17,9 @@ It prints, each with its file and line:
   crates of each in their order, and what each stands on; crates of crates.txt before one that they use;
 - wrong bodies that must stay (STAY) and have no row in docs/WRONG_BODIES.md or no file, each wrong body whose old text
   doesn't stand exactly once in the file that it names, and a sentence of that page that counts them wrongly;
-- destructors: no clause of a caller says what an `impl Drop` of a type does when a value is let go, so one could write
-  to an image after the last flush.
+- destructors that aren't those of WIPERS, word for word, and each of WIPERS that is missing: no clause of a caller says
+  what an `impl Drop` of a type does when a value is let go, so one could write to an image after the last flush, and
+  one that is to overwrite a secret could leave it.
 It ends with status 1 where it found something.
 """
 import itertools
@@ -49,6 +50,14 @@ LIBRARY = re.compile(r"(?<![\w:])([a-z]\w*)::")
 DESTRUCTOR = re.compile(r"\bimpl\b[^{};]*?\bDrop\s+for\b")
 COMMENT = re.compile(r"//[^\n]*")
 
+# The destructors that there are, by file: each overwrites a secret through a pointer, and does nothing else.
+WIPERS = {
+    "crates/block_traits/src/byte_list.rt":
+        "impl Drop for ByteList { fn drop(self) { let ByteList { mut bytes } = self; wipe(bytes.as_mut_slice()); } }",
+    "crates/range_keys/src/held.rt":
+        "impl Drop for HeldRing { fn drop(self) { let HeldRing { mut ring } = self; ring.forget(); } }",
+}
+
 # The wrong bodies that must stay, by crate.
 STAY = {
     "auth_sectors": ["tag_skipped", "one_tag_key_for_all_offsets"],
@@ -61,7 +70,9 @@ STAY = {
     "key_slots": ["always_a_wrong_key", "sealed_by_xts"],
     "provider": [
         "flush_without_a_device_flush", "device_fault_for_good", "read_fault_for_good", "flush_fault_for_good"],
-    "range_keys": ["range_key_0_everywhere", "one_tag_key_for_all_offsets", "key_of_another_number_lent"],
+    "range_keys": [
+        "range_key_0_everywhere", "one_tag_key_for_all_offsets", "key_of_another_number_lent",
+        "master_left_when_forgotten", "kept_keys_left_when_forgotten"],
     "reply_text": ["always_a_write_fault"],
     "resize_kill": ["old_place_destroyed_before_the_new_is_flushed"],
     "sector_runs": [
@@ -262,8 +273,15 @@ def destructors(names):
     for name in names:
         if name.endswith(".rt"):
             text = COMMENT.sub("", (ROOT / name).read_text(encoding="utf-8"))
+            wiper = WIPERS.get(name)
+            missing = wiper is not None
             for found in DESTRUCTOR.finditer(text):
-                yield "%s:%d: a destructor" % (name, text.count("\n", 0, found.start()) + 1)
+                if missing and " ".join(text[found.start():].split()).startswith(wiper):
+                    missing = False
+                else:
+                    yield "%s:%d: a destructor" % (name, text.count("\n", 0, found.start()) + 1)
+            if missing:
+                yield "%s: without its destructor, which overwrites a secret" % name
 
 
 def main():

@@ -10,7 +10,7 @@ use block_traits::NoMemory;
 use eli_base::{Geometry, MasterKey, Params, SectorLayout};
 use eli_metadata::Metadata;
 use key_slots::opened;
-use range_keys::KeyRing;
+use range_keys::HeldRing;
 use std::alloc::Global;
 use user_key::UserKey;
 
@@ -62,11 +62,11 @@ pub fn reserve(
     alloc: Global,
     master: &MasterKey,
     params: &Params,
-) -> Result<(KeyRing, Vec<u8>), NoMemory>
+) -> Result<(HeldRing, Vec<u8>), NoMemory>
     ensures keying { IfOk result (λ kept. kept.0.keying ≡ keying_of params.now master.now) }
     ensures buffer { IfOk result (λ kept. vec_len kept.1 ≡ buffer_bytes kept.0.keying.auth kept.0.keying.sectorsize) }
 {
-    let ring = KeyRing::new(alloc, master, params)?;
-    let buffer = vec![in alloc; 0; buffer_bytes(ring.layout())]?;
+    let ring = HeldRing::new(alloc, master, params)?;
+    let buffer = vec![in alloc; 0; buffer_bytes(ring.get().layout())]?;
     Ok((ring, buffer))
 }

@@ -29,7 +29,7 @@ use crate::{AttachFault, OutOfRange, WriteFault};
 use block_traits::{Disk, DiskFailed, Event, MetaPlace, NoMemory, Sector, store_last};
 use eli_base::{Auth, Cipher, MasterKey, Params};
 use eli_metadata::Metadata;
-use range_keys::KeyRing;
+use range_keys::HeldRing;
 use sector_runs::{
     BadUnit, Judged, ReadFault, judge, open_sectors, read_run, seal_sectors, write_run,
 };
@@ -44,7 +44,7 @@ use user_key::UserKey;
 #[derive(Drop)]
 pub struct Provider<D: Drop> {
     disk: D,
-    ring: KeyRing,
+    ring: HeldRing,
     slot: u8,
     readonly: bool,
     // Logical sectors are sealed here, before one write of the disk, and device sectors are looked at here.
@@ -132,14 +132,14 @@ impl<D: Disk> Provider<D> {
         ensures at_most { result ≤ 65536 }
         ensures whole { result % 512 ≡ 0 }
     {
-        self.ring.layout().size as u32
+        self.ring.get().layout().size as u32
     }
 
     /// How many logical sectors there are.
     pub fn sectors(&self) -> u64
         ensures { result ≡ media self.now.keying (D.state self.now.disk) }
     {
-        self.ring.layout().sectors_in(512 * self.disk.sectors())
+        self.ring.get().layout().sectors_in(512 * self.disk.sectors())
     }
 
     /// Whether the provider has `count` logical sectors from number `sector` on.
@@ -166,14 +166,14 @@ impl<D: Disk> Provider<D> {
         ensures at_least { 1 ≤ result }
         ensures at_most { result ≤ 147 }
     {
-        self.ring.layout().units as u64
+        self.ring.get().layout().units as u64
     }
 
     /// Whether the data are authenticated.
     pub fn authenticated(&self) -> bool
         ensures { result ≡ has_tags self.now.keying.auth }
     {
-        match self.ring.auth() {
+        match self.ring.get().auth() {
             Auth::Off => false,
             Auth::Sha256 | Auth::Sha384 | Auth::Sha512 => true,
         }
@@ -204,21 +204,21 @@ impl<D: Disk> Provider<D> {
     pub fn cipher(&self) -> Cipher
         ensures { result ≡ self.now.keying.cipher }
     {
-        self.ring.cipher()
+        self.ring.get().cipher()
     }
 
     /// A law: the keying is one that a provider may have.
     pub fn is_of_a_keying(&self)
         ensures { IsKeying self.now.keying }
     {
-        self.ring.layout();
+        self.ring.get().layout();
     }
 
     /// The master key.
     pub fn master(&self) -> MasterKey
         ensures { result.bytes ≡ self.now.keying.master }
     {
-        self.ring.master()
+        self.ring.get().master()
     }
 
     /// Reads logical sectors from number `sector` on into `into`, whose length is a positive multiple of the sector
@@ -250,10 +250,10 @@ impl<D: Disk> Provider<D> {
         ensures answer { ReadAnswers D.state (request D.state self.old sector into.old) into.new self.old self.new result }
         ensures kept { IsKept self.old self.new }
     {
-        let size = self.ring.layout().size;
+        let size = self.ring.get().layout().size;
         self.check_range(sector, (into.len() / size) as u64)?;
         let buffer = &mut self.buffer;
-        read_run(&mut self.ring, &mut self.disk, sector, into, buffer)
+        read_run(self.ring.get_mut(), &mut self.disk, sector, into, buffer)
     }
 
     /// Counts so many reads of the disk, which a look has served. None of them is made.
@@ -282,10 +282,10 @@ impl<D: Disk> Provider<D> {
         if self.readonly {
             return Err(WriteFault::ReadOnly);
         }
-        let size = self.ring.layout().size;
+        let size = self.ring.get().layout().size;
         self.check_range(sector, (from.len() / size) as u64)?;
         let buffer = &mut self.buffer;
-        if write_run(&mut self.ring, &mut self.disk, sector, from, buffer).is_err() {
+        if write_run(self.ring.get_mut(), &mut self.disk, sector, from, buffer).is_err() {
             return Err(WriteFault::DeviceFault);
         }
         Ok(())
@@ -311,7 +311,7 @@ impl<D: Disk> Provider<D> {
             parts 512 (count * units self.old.keying) out.new ≡ sealed_sectors self.old.keying sector count plain.now }
         ensures stays { self.new ≡ self.old }
     {
-        seal_sectors(&mut self.ring, sector, plain, out);
+        seal_sectors(self.ring.get_mut(), sector, plain, out);
     }
 
     /// Opens logical sectors from number `sector` on into `out`, from the bytes of their device sectors, one after the
@@ -329,7 +329,7 @@ impl<D: Disk> Provider<D> {
         ensures cleared { OnErr result (out.new ≡ replicate (length out.old) 0) }
         ensures stays { self.new ≡ self.old }
     {
-        let answer = open_sectors(&mut self.ring, sector, device, out);
+        let answer = open_sectors(self.ring.get_mut(), sector, device, out);
         if answer.is_err() {
             out.fill(0);
         }
@@ -375,7 +375,7 @@ impl<D: Disk> Provider<D> {
         requires inside { n < media self.now.keying (D.state self.now.disk) * units self.now.keying }
         ensures { Judges self.now.keying n device.now result }
     {
-        judge(&self.ring, n, device)
+        judge(self.ring.get(), n, device)
     }
 
     /// Whether these bytes are accepted as the unit in device sector `n`: whether the tag in them is that of their

@@ -44,14 +44,14 @@ impl HeldRing {
     }
 
     /// The ring.
-    pub fn ring(&self) -> &KeyRing
+    pub fn get(&self) -> &KeyRing
         ensures { result.now ≡ self.now }
     {
         &*self.ring
     }
 
     /// The ring, to take keys from. The starred clause says that what it then is, this is.
-    pub fn ring_mut(&mut self) -> &mut KeyRing
+    pub fn get_mut(&mut self) -> &mut KeyRing
         ensures* writes_back { sem 𝓛 (LendsRing self.entry result) }
         ensures value { result.now ≡ self.old }
     {

@@ -6,4 +6,4 @@ pub seal_sectors-requires-clause-place : goal.seal_sectors-requires-clause-place
 seal_sectors-requires-clause-place g c =
     let at = rw (← c.self.view_is) at c.requires.inside in
     let d = g.D.Disk.state c.self.inside.disk in
-    omega (arith, request_inside c.self.inside.ring.keying c.args.sector _ d.size at, d.well_formed.bound)
+    rw c.get_mut.ensures.value (omega (arith, request_inside c.self.inside.ring.keying c.args.sector _ d.size at, d.well_formed.bound))

@@ -1,5 +1,5 @@
 //! The files of one option of a key.
-ghost use Rattle.std.specs.Prelude.{◌≡◌, ◌+◌, ◌≤◌, ◌⊎◌, All, length, IfOk, IfErr, IfSome};
+ghost use Rattle.std.specs.Prelude.{◌≡◌, ◌+◌, ◌++◌, ◌≤◌, ◌⊎◌, All, length, IfOk, IfErr, IfSome};
 ghost use Rattle.block_traits.specs.Causes.{Counted};
 ghost use Rattle.command_words.specs.Places.{IsWithin, bytes_at};
 ghost use Rattle.user_key.specs.Passphrase.{first_line};
@@ -8,7 +8,7 @@ ghost use Rattle.key_components.specs.Files.{named_bytes, first_fault, joined_fi
 ghost use Rattle.key_components.specs.Parts.{MayRefuseOf, limit_of, line_fault, taking_of};
 
 use crate::files::{FILE_LIMIT, load_file, load_within};
-use block_traits::{ByteList, Cabinet};
+use block_traits::{ByteList, Cabinet, NoMemory};
 use command_words::Span;
 use eli_base::Refusal;
 use std::alloc::Global;
@@ -79,6 +79,20 @@ impl Part {
     }
 }
 
+// The bytes of both, in memory that is reserved for all of them: a vector that grows lets go of bytes unwiped.
+fn join(alloc: Global, front: &[u8], back: &[u8]) -> Result<ByteList, NoMemory>
+    ensures { IfOk result (λ both. both ≡ front.now ++ back.now) }
+{
+    let mut both = Vec::with_capacity(alloc, front.len() + back.len())?;
+    let Ok(()) = both.extend_from_slice(front) else {
+        unreachable!()
+    };
+    let Ok(()) = both.extend_from_slice(back) else {
+        unreachable!()
+    };
+    Ok(ByteList::from_vec(both))
+}
+
 /// Loads the files of one option, and joins what counts of them, in order.
 pub fn load_part<C: Cabinet>(
     alloc: Global,
@@ -98,12 +112,14 @@ pub fn load_part<C: Cabinet>(
     ensures asked { LoadsEach spans.now (C.state files.old) result (C.state files.new) }
     ensures unstored { (C.state files.new).stores ≡ (C.state files.old).stores }
 {
-    let mut joined = Vec::new(alloc);
+    let mut joined = ByteList::from_vec(Vec::new(alloc));
     for span in spans {
-        let piece = part.load_piece(alloc, line, *span, joined.len(), files)?;
-        let Ok(()) = joined.extend_from_slice(piece.as_slice()) else {
+        let used = joined.as_slice().len();
+        let piece = part.load_piece(alloc, line, *span, used, files)?;
+        let Ok(both) = join(alloc, joined.as_slice(), piece.as_slice()) else {
             return Err(Refusal::NoMemory);
         };
+        joined = both;
     }
-    Ok(ByteList::from_vec(joined))
+    Ok(joined)
 }

@@ -9,17 +9,17 @@ use Rattle.key_components.proofs.parts.load_part.Goals as goal
 pub returns-in_err-piece-clause-answer : goal.returns-in_err-piece-clause-answer
 returns-in_err-piece-clause-answer g c =
     let p = err_from_is_err_and c.from_residual.result c.from_residual.ensures.1 in
-    let used : c.len.result ≡ length c.loop-span.joined.items = search rules in
+    let used : length c.as_slice-used.result.now ≡ length c.loop-span.joined = ap length c.as_slice-used.ensures in
     rw (p.1, p.2)
     (PartIs-stopped (taking_of c.args.part) (g.C.Cabinet.state c.args.files.now).files (g.C.Cabinet.state c.loop-span.files).files c.args.line.now c.args.spans.now c.loop-span.span-index (record { start = 0; end = 0; word = 0 })
-    c.loop-span.joined.items c.len.result c.in_err-piece.field-0.0 c.loop-span-test.true c.loop-span.invariant.0 c.loop-span.invariant.2.files used c.in_err-piece.ensures.answer)
+    c.loop-span.joined (length c.as_slice-used.result.now) c.in_err-piece.field-0.0 c.loop-span-test.true c.loop-span.invariant.0 c.loop-span.invariant.2.files used c.in_err-piece.ensures.answer)
 
 pub returns-in_err-piece-clause-at : goal.returns-in_err-piece-clause-at
 returns-in_err-piece-clause-at g c =
     let p = err_from_is_err_and c.from_residual.result c.from_residual.ensures.1 in
     rw (p.1, p.2)
     (IsAt-stopped (taking_of c.args.part) (g.C.Cabinet.state c.args.files.now).files c.args.line.now c.args.spans.now c.loop-span.span-index (record { start = 0; end = 0; word = 0 })
-    c.loop-span.joined.items c.in_err-piece.field-0.0 c.loop-span-test.true c.loop-span.invariant.0 c.in_err-piece.ensures.word)
+    c.loop-span.joined c.in_err-piece.field-0.0 c.loop-span-test.true c.loop-span.invariant.0 c.in_err-piece.ensures.word)
 
 pub returns-in_err-piece-clause-cause : goal.returns-in_err-piece-clause-cause
 returns-in_err-piece-clause-cause g c =
@@ -40,12 +40,12 @@ returns-in_err-piece-clause-asked g c =
 
 pub loop-span-preserved : goal.loop-span-preserved
 loop-span-preserved g c =
-    let used : c.len.result ≡ length c.loop-span.joined.items = search rules in
-    let items : c.extend_from_slice.new.self.items ≡ c.loop-span.joined.items ++ c.in_ok-piece.piece = rw (← c.as_slice.ensures) c.in-Ok.ensures.items in
-    let sum : length c.extend_from_slice.new.self.items ≡ c.len.result + length c.in_ok-piece.piece = omega (arith, ap length items, length-append c.loop-span.joined.items c.in_ok-piece.piece) in (
+    let used : length c.as_slice-used.result.now ≡ length c.loop-span.joined = ap length c.as_slice-used.ensures in
+    let items : c.in-Ok.both ≡ c.loop-span.joined ++ c.in_ok-piece.piece = search rules in
+    let sum : length c.in-Ok.both ≡ length c.as_slice-used.result.now + length c.in_ok-piece.piece = omega (arith, ap length items, length-append c.loop-span.joined c.in_ok-piece.piece) in (
       rw items
           (TakenSo-next (taking_of c.args.part) (g.C.Cabinet.state c.args.files.now).files (g.C.Cabinet.state c.loop-span.files).files c.args.line.now c.args.spans.now c.loop-span.span-index (record { start = 0; end = 0; word = 0 })
-          c.loop-span.joined.items c.len.result c.in_ok-piece.piece c.loop-span-test.true c.loop-span.invariant.0 c.loop-span.invariant.2.files used c.in_ok-piece.ensures.answer),
+          c.loop-span.joined (length c.as_slice-used.result.now) c.in_ok-piece.piece c.loop-span-test.true c.loop-span.invariant.0 c.loop-span.invariant.2.files used c.in_ok-piece.ensures.answer),
       omega (arith, sum, c.in_ok-piece.ensures.within),
       KeepsFiles-then c.loop-span.invariant.2 c.in_ok-piece.ensures.keeps,
       Counted-then c.loop-span.span-index 1 (c.loop-span.span-index + 1) refl c.loop-span.invariant.3 c.load_piece.ensures.asked,

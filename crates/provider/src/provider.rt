@@ -139,7 +139,10 @@ impl<D: Disk> Provider<D> {
     pub fn sectors(&self) -> u64
         ensures { result ≡ media self.now.keying (D.state self.now.disk) }
     {
-        self.ring.get().layout().sectors_in(512 * self.disk.sectors())
+        self.ring
+            .get()
+            .layout()
+            .sectors_in(512 * self.disk.sectors())
     }
 
     /// Whether the provider has `count` logical sectors from number `sector` on.

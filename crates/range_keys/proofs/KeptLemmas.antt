@@ -8,7 +8,7 @@ use Rattle.lru.proofs.Splits.{Contains-cons, Contains-nil}
 use Rattle.eli_base.specs.declared.algorithms.Cipher.{Cipher}
 use Rattle.lru.specs.LruCache.{LruCache, lru_cache, demoted}
 use Rattle.range_keys.specs.Keys.{numbered_key, first_part, second_part}
-use Rattle.range_keys.specs.Kept.{AreKept, Turned, turned, expanded_key}
+use Rattle.range_keys.specs.Kept.{AreKept, RemakesFront, front_remade, expanded_key}
 use Rattle.range_keys.specs.Numbers.{room}
 use Rattle.range_keys.specs.declared.expanded.RangeKey.{RangeKey}
 
@@ -36,19 +36,19 @@ module _ (cipher : Cipher) (keylen : ℕ) (base : List ℕ) where
       (λ i. record { first = one i; second = two i })
 
   -- the entry in front is overwritten where it stands, and put last
-  front-turned : (n : ℕ) (key made : RangeKey) (es : List (ℕ × RangeKey)) → slice_get es 0 ≡ Some (n, key) → made ≡ expanded_key cipher keylen base n
-      → demoted (nat_eq n) (set_value (nat_eq n) es made) ≡ turned cipher keylen base es
-  front-turned n key made [] h right = cc
-  front-turned n key made (e ∷ es) h right =
+  entries-remade : (n : ℕ) (key made : RangeKey) (es : List (ℕ × RangeKey)) → slice_get es 0 ≡ Some (n, key) → made ≡ expanded_key cipher keylen base n
+      → demoted (nat_eq n) (set_value (nat_eq n) es made) ≡ front_remade cipher keylen base es
+  entries-remade n key made [] h right = cc
+  entries-remade n key made (e ∷ es) h right =
       let number : n ≡ e.0 = cc in
       let made_of : made ≡ expanded_key cipher keylen base e.0 = right ∙ ap (expanded_key cipher keylen base) number in
       let test = same-number n e.0 number in
       rw test (rw test (ap (λ k. es ++ (e.0, k) ∷ []) made_of))
 
-  pub is-turned : (n : ℕ) (key made : RangeKey) (old mid new : LruCache ℕ RangeKey) → slice_get old.entries 0 ≡ Some (n, key) → made ≡ expanded_key cipher keylen base n
-      → mid ≡ lru_cache (set_value (nat_eq n) old.entries made) old.cap → new ≡ lru_cache (demoted (nat_eq n) mid.entries) mid.cap → Turned cipher keylen base old new
-  is-turned n key made old mid new h right written moved = record {
-    entries = ap (λ c. c.entries) moved ∙ ap (λ (c : LruCache ℕ RangeKey). demoted (nat_eq n) c.entries) written ∙ front-turned n key made old.entries h right;
+  pub front-is-remade : (n : ℕ) (key made : RangeKey) (old mid new : LruCache ℕ RangeKey) → slice_get old.entries 0 ≡ Some (n, key) → made ≡ expanded_key cipher keylen base n
+      → mid ≡ lru_cache (set_value (nat_eq n) old.entries made) old.cap → new ≡ lru_cache (demoted (nat_eq n) mid.entries) mid.cap → RemakesFront cipher keylen base old new
+  front-is-remade n key made old mid new h right written moved = record {
+    entries = ap (λ c. c.entries) moved ∙ ap (λ (c : LruCache ℕ RangeKey). demoted (nat_eq n) c.entries) written ∙ entries-remade n key made old.entries h right;
     cap = ap (λ c. c.cap) moved ∙ ap (λ c. c.cap) written;
   }
 
@@ -79,19 +79,19 @@ module _ (cipher : Cipher) (keylen : ℕ) (base : List ℕ) where
   ]
 
   next-by : (old mid new : LruCache ℕ RangeKey) (done : ℕ) (left made : List (ℕ × RangeKey)) → done < length old.entries → mid.entries ≡ left ++ made → length left + done ≡ length old.entries → AreMade made
-      → keys_of old.entries ≡ keys_of made ++ keys_of left → mid.cap ≡ old.cap → Turned cipher keylen base mid new → IsRekeyed old new (done + 1)
+      → keys_of old.entries ≡ keys_of made ++ keys_of left → mid.cap ≡ old.cap → RemakesFront cipher keylen base mid new → IsRekeyed old new (done + 1)
   next-by old mid new done [] made some is many right numbers cap turns = absurd (omega (arith, some, many))
   next-by old mid new done (e ∷ left) made some is many right numbers cap turns = record {
     left = left;
     made = made ++ (e.0, expanded_key cipher keylen base e.0) ∷ [];
-    is = turns.entries ∙ ap (turned cipher keylen base) is ∙ append_assoc left made _;
+    is = turns.entries ∙ ap (front_remade cipher keylen base) is ∙ append_assoc left made _;
     many = omega (arith, many);
     right = one-more made e.0 right;
     numbers = numbers ∙ sym (ap (λ l. l ++ keys_of left) (keys_of-append made _) ∙ append_assoc (keys_of made) _ _);
     cap = turns.cap ∙ cap;
   }
 
-  pub rekeyed-next : (old mid new : LruCache ℕ RangeKey) (done : ℕ) → done < length old.entries → IsRekeyed old mid done → Turned cipher keylen base mid new → IsRekeyed old new (done + 1)
+  pub rekeyed-next : (old mid new : LruCache ℕ RangeKey) (done : ℕ) → done < length old.entries → IsRekeyed old mid done → RemakesFront cipher keylen base mid new → IsRekeyed old new (done + 1)
   rekeyed-next old mid new done some so turns = next-by old mid new done so.left so.made some so.is so.many so.right so.numbers so.cap turns
 
   all-by : (old new : LruCache ℕ RangeKey) (left made : List (ℕ × RangeKey)) → new.entries ≡ left ++ made → length left + length old.entries ≡ length old.entries → AreMade made

@@ -17,10 +17,10 @@ pub record AreKept (cipher : Cipher) (keylen : ℕ) (base : List ℕ) (kept : Lr
   pub each : (number : ℕ) (key : RangeKey) → Contains kept.entries (number, key) → key ≡ expanded_key cipher keylen base number
 
 -- the entry in front has the key of its number, made of this range base, and stands last; of none, none is made
-abbrev pub turned : Cipher → ℕ → List ℕ → List (ℕ × RangeKey) → List (ℕ × RangeKey)
-turned cipher keylen base [] = []
-turned cipher keylen base (e ∷ es) = es ++ (e.0, expanded_key cipher keylen base e.0) ∷ []
+abbrev pub front_remade : Cipher → ℕ → List ℕ → List (ℕ × RangeKey) → List (ℕ × RangeKey)
+front_remade cipher keylen base [] = []
+front_remade cipher keylen base (e ∷ es) = es ++ (e.0, expanded_key cipher keylen base e.0) ∷ []
 
-pub record Turned (cipher : Cipher) (keylen : ℕ) (base : List ℕ) (old new : LruCache ℕ RangeKey) : Type 0 where
-  pub entries : new.entries ≡ turned cipher keylen base old.entries
+pub record RemakesFront (cipher : Cipher) (keylen : ℕ) (base : List ℕ) (old new : LruCache ℕ RangeKey) : Type 0 where
+  pub entries : new.entries ≡ front_remade cipher keylen base old.entries
   pub cap : new.cap ≡ old.cap

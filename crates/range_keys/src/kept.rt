@@ -5,7 +5,7 @@ ghost use Rattle.std.specs.Bool.{OnTrue, OnFalse};
 ghost use Rattle.std.specs.Map.{keys_of};
 ghost use Rattle.eli_base.specs.Algorithms.{allows_length};
 ghost use Rattle.range_keys.specs.Numbers.{AfterUse, room};
-ghost use Rattle.range_keys.specs.Kept.{AreKept, Turned, expanded_key};
+ghost use Rattle.range_keys.specs.Kept.{AreKept, RemakesFront, expanded_key};
 
 use crate::derivation::range_key;
 use crate::expanded::{RangeKey, expanded};
@@ -75,7 +75,7 @@ impl KeptKeys {
     // Makes the key in front that of its number under another base, and puts it last.
     fn rekey_first(&mut self, cipher: Cipher, keylen: u16, base: &[u8; 64])
         requires allowed { IsTrue (allows_length cipher keylen) }
-        ensures turned { Turned cipher keylen base.now self.old.cache self.new.cache }
+        ensures remade { RemakesFront cipher keylen base.now self.old.cache self.new.cache }
         ensures unkept { self.new.unkept ≡ self.old.unkept }
     {
         let Some((number, _)) = self.cache.peek_mru() else {

@@ -10,5 +10,5 @@ read_run-requires-clause-inside g c =
     let size = (g.D.Disk.state c.self.inside.disk).size in
     let bytes = length c.args.into.now in
     rw c.get_mut.ensures.value (
-      subst (λ (s : ℕ). (c.args.sector + bytes / s) * units k ≤ size) (rw c.get.ensures at c.layout-size.ensures.size) (request_inside k c.args.sector (bytes / c.layout-size.result.size) size fits)
+    subst (λ (s : ℕ). (c.args.sector + bytes / s) * units k ≤ size) (rw c.get.ensures at c.layout-size.ensures.size) (request_inside k c.args.sector (bytes / c.layout-size.result.size) size fits)
     )

@@ -9,9 +9,8 @@ loop-place-init c =
 pub loop-place-preserved : goal.loop-place-preserved
 loop-place-preserved c =
     let done = c.loop-place._place in
-    let some : done < length c.args.self.now.cache.entries = rw (← c.rekey_unkept.ensures.cache, ← c.len-place-end.ensures.len) c.loop-place-test.true in
-    (
-      rekeyed-next c.args.cipher c.args.keylen c.args.base.now c.args.self.now.cache c.loop-place.self.cache c.rekey_first.new.self.cache done some c.loop-place.invariant.0 c.rekey_first.ensures.turned,
+    let some : done < length c.args.self.now.cache.entries = rw (← c.rekey_unkept.ensures.cache, ← c.len-place-end.ensures.len) c.loop-place-test.true in (
+      rekeyed-next c.args.cipher c.args.keylen c.args.base.now c.args.self.now.cache c.loop-place.self.cache c.rekey_first.new.self.cache done some c.loop-place.invariant.0 c.rekey_first.ensures.remade,
       rw c.rekey_first.ensures.unkept c.loop-place.invariant.1,
     )
 

@@ -11,6 +11,7 @@ use crate::site::Site;
 use block_traits::{Cabinet, Disk, Entropy, Sink, Source};
 use command_words::{LINE_LIMIT, Sep};
 use memchr::memchr;
+use wiping::wipe;
 
 /// Why no more bytes are looked at.
 #[derive(Clone, Copy)]
@@ -59,6 +60,7 @@ impl<K: Sink, C: Cabinet, E: Entropy, D: Disk> Site<'_, K, C, E, D> {
                 Err(_) => return Err(Stop::Unprinted),
             };
             *refused = either(*refused, end.is_refusal());
+            wipe(line.as_mut_slice());
             line.clear();
             return Ok(());
         }
@@ -127,6 +129,7 @@ impl<K: Sink, C: Cabinet, E: Entropy, D: Disk> Site<'_, K, C, E, D> {
                 Ok(count) => count,
             };
             let fed = self.feed_piece(line, &piece[..count], refused);
+            wipe(&mut piece[..count]);
             if let Err(stop) = fed {
                 return Ending::Stopped(stop);
             }

@@ -6,7 +6,7 @@
 //! of the caller's own. Without the promise a method might have exchanged a reference for another, and the caller
 //! would know nothing of its own values.
 //!
-//! The value keeps no state of its own, so a failure leaves nothing to undo. A run that breaks off leaves the four
+//! The value keeps no state of its own but a mark that means nothing, so a failure leaves nothing to undo. A run that breaks off leaves the four
 //! values as its lines left them, and the closing of the drawers if there was one.
 //!
 //! One value stands for four parameters, so the functions of a run have short signatures.
@@ -22,6 +22,8 @@ pub(crate) struct Site<'a, K, C, E, D: Drop> {
     pub(crate) output: &'a mut K,
     pub(crate) files: &'a mut C,
     pub(crate) entropy: &'a mut E,
+    // What `scrub` wants kept. No contract sees it.
+    pub(crate) mark: u8,
 }
 
 impl<'a, K, C, E, D: Drop> Site<'a, K, C, E, D> {
@@ -42,6 +44,7 @@ impl<'a, K, C, E, D: Drop> Site<'a, K, C, E, D> {
             output,
             files,
             entropy,
+            mark: 0,
         }
     }
 }

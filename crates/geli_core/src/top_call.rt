@@ -21,6 +21,7 @@ use run_status::Status;
 use shelf::{Drawers, Shelf};
 use std::alloc::Global;
 use text_page::write_text;
+use wiping::{scrub, wipe};
 
 const USAGE: &[u8] = b"usage: geli script IMAGE... or geli VERB ...\n";
 
@@ -109,7 +110,10 @@ impl<K: Sink, C: Cabinet, E: Entropy, D: Disk> Site<'_, K, C, E, D> {
         };
         let mut refused = false;
         let ending = self.feed_source(input, &mut line, &mut refused);
-        self.end_script(ending, line.as_slice(), refused)
+        let status = self.end_script(ending, line.as_slice(), refused);
+        wipe(line.as_mut_slice());
+        scrub(&mut self.mark);
+        status
     }
 
     // Runs one command, which its line says.
@@ -123,9 +127,14 @@ impl<K: Sink, C: Cabinet, E: Entropy, D: Disk> Site<'_, K, C, E, D> {
             (whole_of (site_now K.state C.state E.state D.state self.new) source) }
     {
         match self.serve_command(line, command) {
-            Ok(end) => self.close_and_print(end.is_refusal()),
+            Ok(end) => {
+                let status = self.close_and_print(end.is_refusal());
+                scrub(&mut self.mark);
+                status
+            }
             Err(_) => {
                 self.shelf.close();
+                scrub(&mut self.mark);
                 Status::WriteFault
             }
         }

@@ -1,5 +1,5 @@
 -- What becomes of the image that words name, and of a client.
-use Rattle.std.specs.Prelude.{◌≡◌, ◌⊎◌, ℕ, List, [], ◌∷◌, Bool, not, Option, Result, Ok, Err, is_ok}
+use Rattle.std.specs.Prelude.{◌≡◌, ◌⊎◌, ℕ, List, [], ◌∷◌, Bool, length, not, replicate, Option, Result, Ok, Err, is_ok}
 use Rattle.block_traits.specs.Cabinet.{CabinetState}
 use Rattle.block_traits.specs.Content.{Content}
 use Rattle.block_traits.specs.Disk.{DiskState}
@@ -32,6 +32,7 @@ use Rattle.nbd_session.specs.Session.{HasSession}
 use Rattle.reply_text.specs.Text.{refusal_text}
 use Rattle.nbd_run.specs.Status.{session_status}
 use Rattle.nbd_run.specs.Words.{AsksForNothing, AsksToAttach, attaches_readonly, help_text, usage_line, version_text, wish_of}
+use Rattle.nbd_run.specs.declared.serving.Rooms.{Rooms}
 use Rattle.nbd_run.specs.declared.status.Status.{Status}
 use Rattle.nbd_run.specs.declared.status.Status.TheVariants.{Done, SomeRefused, BadWords, WriteFault, NoMemory}
 use Rattle.nbd_run.specs.declared.words.Wish.{Wish}
@@ -148,6 +149,14 @@ module _ (line : List ℕ) (command : Command) (start : Reach) where
   -- what became of an idle disk
   abbrev pub ServesDisk : Streams → Status → Remains → Streams → Type 0
   ServesDisk old status left new = RefusesToAttach old status left new ⊎ ServesAttached old status left new
+
+-- ---- the rooms
+
+-- all bytes of the rooms are zeros
+abbrev pub AreWiped : Rooms → Type 0
+AreWiped rooms =
+    (rooms.buffer.items ≡ replicate (length rooms.buffer.items) 0) × (rooms.room.items ≡ replicate (length rooms.room.items) 0)
+    × (rooms.edge.items ≡ replicate (length rooms.edge.items) 0)
 
 -- ---- the run
 

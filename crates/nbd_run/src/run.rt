@@ -4,7 +4,7 @@ ghost use Rattle.command_words.specs.Bounds.{IsBounded};
 ghost use Rattle.command_words.specs.Places.{CommandIsWithin};
 ghost use Rattle.command_rows.specs.World.{Idle, reach_of};
 ghost use Rattle.eli_base.specs.Requests.{request_limit};
-ghost use Rattle.nbd_run.specs.Program.{LacksMemory, ServesDisk, ServesImage, ServesNothing, remains, streams};
+ghost use Rattle.nbd_run.specs.Program.{AreWiped, LacksMemory, ServesDisk, ServesImage, ServesNothing, remains, streams};
 ghost use Rattle.nbd_run.specs.Words.{AsksToAttach, attaches, wish_of};
 ghost use Rattle.nbd_run.specs.declared.words.Wish.TheVariants as wishes;
 
@@ -17,6 +17,7 @@ use block_traits::{Cabinet, Disk, Entropy, Sink, Source};
 use file_edge::{FileCabinet, FileDisk, ImageFile, Opener, RandomFile};
 use image_layers::ImageDisk;
 use std::alloc::Global;
+use wiping::scrub;
 
 /// How a run ended that opened an image, and what was opened, as the run left it.
 #[derive(Drop)]
@@ -114,7 +115,7 @@ fn serve_asked<O: Opener + Drop, S: Source, K: Sink, L: Sink>(
     }
 }
 
-// Attaches the provider on what was opened and serves it, or prints the refusal to the log.
+// Attaches the provider on what was opened and serves it, or prints the refusal to the log. The rooms are zeros then.
 fn serve_opened<O: Opener + Drop, S: Source, K: Sink, L: Sink>(
     alloc: Global,
     opened: Opened<O>,
@@ -130,11 +131,12 @@ fn serve_opened<O: Opener + Drop, S: Source, K: Sink, L: Sink>(
     requires room { length rooms.old.room.items ≡ 33685520 }
     requires edge { length rooms.old.edge.items ≡ 65536 }
     requires buffer { length rooms.old.buffer.items ≡ request_limit }
-    ensures { ServesDisk asked.now.line.items asked.now.command
+    ensures serves { ServesDisk asked.now.line.items asked.now.command
         (reach_of ((⟦<ImageDisk<O::File> as Disk>⟧).state opened.disk) Idle ((⟦<FileCabinet<O> as Cabinet>⟧).state opened.files)
         ((⟦<RandomFile<O::File> as Entropy>⟧).state opened.entropy)) (streams (S.state input.old) (K.state output.old) (L.state log.old)) result.status
         (remains ((⟦<ImageDisk<O::File> as Disk>⟧).state result.disk) ((⟦<FileCabinet<O> as Cabinet>⟧).state result.files)
         ((⟦<RandomFile<O::File> as Entropy>⟧).state result.entropy)) (streams (S.state input.new) (K.state output.new) (L.state log.new)) }
+    ensures wiped { AreWiped rooms.new }
 {
     let Opened {
         disk,
@@ -143,7 +145,10 @@ fn serve_opened<O: Opener + Drop, S: Source, K: Sink, L: Sink>(
     } = opened;
     let buffer = rooms.buffer.as_mut_slice();
     let attached = attach(alloc, disk, asked, buffer, &mut files, &mut entropy);
+    // What attaching left on the stack is overwritten before the client is waited for.
+    scrub(&mut rooms.mark);
     let (status, disk) = serve_or_log(attached, rooms, input, output, log);
+    rooms.forget();
     Ran {
         status,
         disk,

@@ -3,7 +3,7 @@ ghost use Rattle.std.specs.Prelude.{◌≡◌, ◌⊎◌, IfErr, IfOk, OnErr, On
 ghost use Rattle.block_traits.specs.Streams.{TookAll, TookPart};
 ghost use Rattle.eli_base.specs.Requests.{request_limit};
 ghost use Rattle.nbd_session.specs.Requests.{side_of};
-ghost use Rattle.nbd_run.specs.Program.{EndsWith, PrintsText};
+ghost use Rattle.nbd_run.specs.Program.{AreWiped, EndsWith, PrintsText};
 ghost use Rattle.nbd_run.specs.declared.status.Status.TheVariants as statuses;
 ghost use Rattle.reply_text.specs.Text.{refusal_text};
 
@@ -15,6 +15,7 @@ use provider::Provider;
 use reply_text::{Reply, write_reply};
 use std::alloc::{AllocError, Global};
 use text_page::write_text;
+use wiping::{scrub, wipe};
 
 // Serves an attached provider to one client, and returns the disk.
 fn serve_provider<D: Disk, S: Source, K: Sink>(
@@ -39,6 +40,20 @@ pub(crate) struct Rooms {
     pub(crate) buffer: Vec<u8>,
     pub(crate) room: Vec<u8>,
     pub(crate) edge: Vec<u8>,
+    // What `scrub` wants kept.
+    pub(crate) mark: u8,
+}
+
+impl Rooms {
+    /// Overwrites the rooms with zeros, and what the calls so far left on the stack.
+    pub(crate) fn forget(&mut self)
+        ensures { AreWiped self.new }
+    {
+        wipe(self.buffer.as_mut_slice());
+        wipe(self.room.as_mut_slice());
+        wipe(self.edge.as_mut_slice());
+        scrub(&mut self.mark);
+    }
 }
 
 /// Takes the rooms.
@@ -50,7 +65,12 @@ pub(crate) fn take_rooms(alloc: Global) -> Result<Rooms, AllocError>
     let buffer = vec![in alloc; 0; REQUEST_LIMIT as usize]?;
     let room = vec![in alloc; 0; ROOM]?;
     let edge = vec![in alloc; 0; EDGE]?;
-    Ok(Rooms { buffer, room, edge })
+    Ok(Rooms {
+        buffer,
+        room,
+        edge,
+        mark: 0,
+    })
 }
 
 /// Serves a provider that was attached, or prints to the log why it wasn't. It returns the disk.

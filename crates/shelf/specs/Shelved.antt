@@ -1,5 +1,5 @@
 -- A shelf: its drawers, and the buffer of requests; and the drawers of the code as plain data.
-use Rattle.std.specs.Prelude.{ℕ, Bool, true, false, List, map}
+use Rattle.std.specs.Prelude.{◌≡◌, ℕ, Bool, true, false, List, length, map, replicate}
 use Rattle.command_rows.specs.Rows.{Attachment, DrawerState, Holding, Idle, IsAttached, IsSuspended, Kept, NamesDiffer, Reach, World, reach_of}
 use Rattle.command_rows.specs.Vocabulary.{Attached, CabinetState, DiskState, EntropyState, Request}
 use Rattle.shelf.specs.declared.drawer.Drawer.{Drawer}
@@ -11,6 +11,10 @@ use Rattle.suspend.specs.Suspension.{Suspension}
 pub record Shelved (D : Type 0) : Type 0 where
   pub drawers : List (Drawer D)
   pub buffer : List ℕ
+
+-- nothing of a request stands in the buffer: all its bytes are zeros
+abbrev pub IsWiped : {D : Type 0} → Shelved D → Type 0
+IsWiped shelf = shelf.buffer ≡ replicate (length shelf.buffer) 0
 
 -- a provider on which these requests are open
 abbrev pub attachment_of : {D : Type 0} → List Request → Attached D → Attachment

@@ -24,7 +24,7 @@ ghost use Rattle.reply_text.specs.Answer.{answer_of};
 ghost use Rattle.shelf.specs.Closing.{Closing, failures};
 ghost use Rattle.command_rows.specs.Turn.{ListsAs, ShowsEvents, Turn, entry_of};
 ghost use Rattle.command_rows.specs.World.{HoldKeyings, NamesDiffer, place_of};
-ghost use Rattle.shelf.specs.Shelved.{drawers_of, world_of};
+ghost use Rattle.shelf.specs.Shelved.{IsWiped, drawers_of, world_of};
 
 use crate::{Drawer, Held};
 use block_traits::{ByteList, Cabinet, Disk, Entropy, Event, NoMemory};
@@ -33,6 +33,7 @@ use eli_base::{REQUEST_LIMIT, Refusal};
 use reply_text::{Reply, Row, RowList};
 use std::alloc::{AllocError, Global};
 use std::marker::Model;
+use wiping::wipe;
 
 /// How many drawers a shelf may have.
 const ROOM: usize = 16;
@@ -111,6 +112,9 @@ impl<D: Disk> Drawers<D> {
     /// provider, and otherwise the reply of the drawer. The other drawers stay as they are. `list` replies with an
     /// entry for each drawer, or that there was no memory. `eject` takes the drawer out with its disk, of which nothing
     /// more is said.
+    ///
+    /// It isn't inlined, since its frame holds copies of keys, and its caller overwrites the stack below its own.
+    #[inline(never)]
     pub fn serve<C: Cabinet, E: Entropy>(
         &mut self,
         line: &[u8],
@@ -167,12 +171,23 @@ impl<D: Disk> Drawers<D> {
         self.buffer.as_slice()
     }
 
+    /// Overwrites the buffer of requests with zeros.
+    pub fn forget(&mut self)
+        ensures wiped { IsWiped self.new }
+        ensures drawers { self.new.drawers ≡ self.old.drawers }
+    {
+        wipe(self.buffer.as_mut_slice());
+    }
+
     /// Flushes the disk of each attached or suspended drawer, in order, and returns how many flushes failed. All
-    /// drawers are idle then.
+    /// drawers are idle then, and the buffer of requests is overwritten with zeros.
     pub fn close(&mut self) -> u32
         ensures closing { Closing (drawers_of D.state self.old.drawers) result (drawers_of D.state self.new.drawers) }
+        ensures wiped { IsWiped self.new }
     {
-        close_all(&mut self.drawers)
+        let failed = close_all(&mut self.drawers);
+        self.forget();
+        failed
     }
 
     /// A law: what is attached has a keying that a provider may have.

@@ -9,7 +9,7 @@ returns-in-Ok-open_asked-clause-serves g c = λ words wish asks.
     let opens = c.in-Ok-open_asked.ensures in
     served_image g.O.Opener g.O.File.ImageFile words c.args.opener opened.files.opener (string_bytes c.args.asked.name) c.args.asked.line.items c.args.asked.command
     opened.disk opened.files.images.items opened.entropy _ _ wish asks opens.opens opens.tells opens.files opens.random
-    (λ d. refl) _ _ _ _ _ _ _ _ _ _ c.serve_opened.ensures
+    (λ d. refl) _ _ _ _ _ _ _ _ _ _ c.serve_opened.ensures.serves
 
 pub returns-in_default-clause-serves : goal.returns-in_default-clause-serves
 returns-in_default-clause-serves g c = grind (arith, common_steps) steps 400000

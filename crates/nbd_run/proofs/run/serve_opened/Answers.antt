@@ -2,8 +2,8 @@ use Rattle.image_layers.specs.Images.{image_disk_state}
 use Rattle.nbd_run.proofs.Imaged.{served_disk}
 use Rattle.nbd_run.proofs.run.serve_opened.Goals as goal
 
-pub returns : goal.returns
-returns g c =
+pub returns-clause-serves : goal.returns-clause-serves
+returns-clause-serves g c =
     let ran = c.serve_or_log-status in
     let attached = c.attach-attached in
     served_disk image_disk_state g.S.Source.state g.K.Sink.state g.L.Sink.state c.args.asked.now.line.items c.args.asked.now.command _

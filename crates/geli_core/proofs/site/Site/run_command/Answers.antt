@@ -5,8 +5,8 @@ use Rattle.geli_core.proofs.site.Site.run_command.Goals as goal
 
 pub returns-in-Ok-clause-runs : goal.returns-in-Ok-clause-runs
 returns-in-Ok-clause-runs g c = λ source said.
-    ran_command c.args.line.now c.args.command.now _ _ _ source c.in-Ok.end c.is_refusal.result c.close_and_print.result said
-    (c.in-Ok.ensures.serves Zeros (says c.args.line.now c.args.command.now said)) c.is_refusal.ensures c.close_and_print.ensures.closes
+    ran_command c.args.line.now c.args.command.now _ _ _ source c.in-Ok.end c.is_refusal.result c.close_and_print-status.result said
+    (c.in-Ok.ensures.serves Zeros (says c.args.line.now c.args.command.now said)) c.is_refusal.ensures c.close_and_print-status.ensures.closes
 
 pub returns-in-Err-clause-runs : goal.returns-in-Err-clause-runs
 returns-in-Err-clause-runs g c = λ source said.

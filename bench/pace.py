@@ -88,7 +88,8 @@ def main():
     for what, lines, waits in ROWS:
         times = measure(programs, folder, rounds, lines, waits)
         middle = {name: statistics.median(of_it) for name, of_it in times.items()}
-        cells = [f"{min(times[name]):.1f}, {middle[name]:.1f}, {middle[name] / middle[first] - 1:+.1%}" for name in programs]
+        cells = [f"{min(times[name]):.1f}, {median:.1f}, {median / middle[first] - 1:+.1%}"
+                 for name, median in middle.items()]
         print(f"| {what} | {' | '.join(cells)} |", flush=True)
 
 

@@ -87,7 +87,8 @@ def state_after(block, bits):
         first = h + mixed(e, large1, False) + (e & f ^ ~e & mask & g) + constant + word
         second = mixed(a, large0, False) + (a & b ^ a & c ^ b & c)
         a, b, c, d, e, f, g, h = (first + second) & mask, a, b, c, (d + first) & mask, e, f, g
-    return b"".join(((old + new) & mask).to_bytes(bits // 8, "big") for old, new in zip(start, (a, b, c, d, e, f, g, h)))
+    sums = [(old + new) & mask for old, new in zip(start, (a, b, c, d, e, f, g, h))]
+    return b"".join(word.to_bytes(bits // 8, "big") for word in sums)
 
 
 def hmac_secrets(name, group, key):
@@ -160,10 +161,9 @@ class Metadata:
         with open(image, "rb") as file:
             file.seek(-512, 2)
             meta = file.read()
-        self.flags, self.cipher, bits, = struct.unpack("<IHH", meta[20:28])
+        flags, cipher, bits = struct.unpack("<IHH", meta[20:28])
         self.iterations, = struct.unpack("<i", meta[43:47])
-        self.sectorsize, = struct.unpack("<I", meta[38:42])
-        self.key_bytes, self.is_xts, self.is_tagged = bits // 8, self.cipher == 22, bool(self.flags & 0x10)
+        self.key_bytes, self.is_xts, self.is_tagged = bits // 8, cipher == 22, bool(flags & 0x10)
         self.salt, self.slot = meta[47:111], meta[111:303]
 
 
@@ -190,7 +190,7 @@ class Derived:
             total ^= int.from_bytes(iterate, "big")
         self.stretched = total.to_bytes(64, "big") if self.iterates else self.meta.salt + self.passphrase
 
-    def secrets(self, of):
+    def secrets(self, of=""):
         """All of these keys; `of` begins the names."""
         yield Secret(f"{of}PBKDF2's output", DERIVED, self.stretched)
         for iterate in self.iterates:
@@ -212,26 +212,26 @@ class Derived:
         return text[:128]
 
 
-def ring_secrets(of, meta, master, numbers):
+def ring_secrets(meta, master, numbers):
     """The keys of an attached provider of version 7, and its range keys of these numbers."""
     iv_key, data_key = master[:64], master[64:]
     base = hmac512(data_key, b"\x10") if meta.is_tagged else data_key
     auth_key = hmac512(data_key, b"\x11")
-    yield Secret(f"{of}IV-Key", HELD, iv_key)
-    yield Secret(f"{of}Data-Key", HELD, data_key)
-    yield Secret(f"{of}range base", HELD, base)
-    yield Secret(f"{of}IV-Key, SHA-256's state", HELD, state_after(iv_key, 32))
-    yield Secret(f"{of}authentication key, SHA-256's state", HELD, state_after(auth_key, 32))
+    yield Secret("IV-Key", HELD, iv_key)
+    yield Secret("Data-Key", HELD, data_key)
+    yield Secret("range base", HELD, base)
+    yield Secret("IV-Key, SHA-256's state", HELD, state_after(iv_key, 32))
+    yield Secret("authentication key, SHA-256's state", HELD, state_after(auth_key, 32))
     for number in numbers:
-        yield from range_secrets(of, meta, base, number)
-    yield from hmac_secrets(f"{of}range base", USED, base)
-    yield Secret(f"{of}authentication key", DERIVED, auth_key)
-    yield from hmac_secrets(f"{of}Data-Key", DERIVED, data_key)
+        yield from range_secrets(meta, base, number)
+    yield from hmac_secrets("range base", USED, base)
+    yield Secret("authentication key", DERIVED, auth_key)
+    yield from hmac_secrets("Data-Key", DERIVED, data_key)
 
 
-def range_secrets(of, meta, base, number):
+def range_secrets(meta, base, number):
     key, size = hmac512(base, b"ekey" + struct.pack("<Q", number)), meta.key_bytes
-    name = f"{of}range key {number}"
+    name = f"range key {number}"
     yield Secret(name, USED, key)
     yield from schedule_secrets(f"{name}, K1", USED, key[:size], has_planes=True)
     if meta.is_xts:

@@ -213,49 +213,52 @@ class Client(Process):
         self.run.wait()
 
 
-class Ended:
-    """Lets a program run to its end, and stops it there: ptrace(2) with PTRACE_O_TRACEEXIT."""
+# ptrace(2), by which a program is stopped just before it exits.
 
-    TRACEME, CONT, SETOPTIONS, SEIZE, TRACEEXIT, EXIT = 0, 7, 0x4200, 0x4206, 0x40, 6
-    libc = ctypes.CDLL(None, use_errno=True)
+TRACEME, CONT, SETOPTIONS, SEIZE, TRACEEXIT, EVENT_EXIT = 0, 7, 0x4200, 0x4206, 0x40, 6
+LIBC = ctypes.CDLL(None, use_errno=True)
 
-    @classmethod
-    def ptrace(cls, what, number=0, data=0):
-        if cls.libc.ptrace(what, ctypes.c_long(number), None, ctypes.c_void_p(data)):
-            raise OSError(ctypes.get_errno(), "ptrace")
 
-    @classmethod
-    def of_command(cls, words):
-        """A command, stopped at its end."""
-        # Its exec stops it.
-        run = subprocess.Popen(words, stdin=subprocess.DEVNULL, stdout=subprocess.PIPE,
-                               preexec_fn=lambda: cls.ptrace(cls.TRACEME))
-        os.waitpid(run.pid, 0)
-        cls.ptrace(cls.SETOPTIONS, run.pid, cls.TRACEEXIT)
-        cls.ptrace(cls.CONT, run.pid)
-        return run
+def ptrace(what, number=0, data=0):
+    if LIBC.ptrace(what, ctypes.c_long(number), None, ctypes.c_void_p(data)):
+        raise OSError(ctypes.get_errno(), "ptrace")
 
-    @classmethod
-    def seize(cls, run):
-        """A program that is asked to end by the end of its input, stopped there."""
-        cls.ptrace(cls.SEIZE, run.pid, cls.TRACEEXIT)
-        run.stdin.close()
 
-    @classmethod
-    @contextlib.contextmanager
-    def stopped(cls, run):
-        """Goes on with it until it is at its end."""
-        while True:
-            _, status = os.waitpid(run.pid, 0)
-            assert os.WIFSTOPPED(status), f"process {run.pid} ended unseen"
-            if status >> 8 == signal.SIGTRAP | cls.EXIT << 8:
-                break
-            number = os.WSTOPSIG(status)
-            cls.ptrace(cls.CONT, run.pid, 0 if number == signal.SIGTRAP else number)
-        yield Process(run.pid)
-        cls.ptrace(cls.CONT, run.pid)
-        run.stdout.read()
-        run.wait()
+@contextlib.contextmanager
+def command_at_end(words):
+    """Runs a command until it is at its end."""
+    # Its exec stops it.
+    run = subprocess.Popen(words, stdin=subprocess.DEVNULL, stdout=subprocess.PIPE, stderr=subprocess.DEVNULL,
+                           preexec_fn=lambda: ptrace(TRACEME))
+    os.waitpid(run.pid, 0)
+    ptrace(SETOPTIONS, run.pid, TRACEEXIT)
+    ptrace(CONT, run.pid)
+    with at_end(run) as process:
+        yield process
+
+
+@contextlib.contextmanager
+def input_at_end(run):
+    """Ends the input of a program, and lets it go on until it is at its end."""
+    ptrace(SEIZE, run.pid, TRACEEXIT)
+    run.stdin.close()
+    with at_end(run) as process:
+        yield process
+
+
+@contextlib.contextmanager
+def at_end(run):
+    while True:
+        _, status = os.waitpid(run.pid, 0)
+        assert os.WIFSTOPPED(status), f"process {run.pid} ended unseen"
+        if status >> 8 == signal.SIGTRAP | EVENT_EXIT << 8:
+            break
+        number = os.WSTOPSIG(status)
+        ptrace(CONT, run.pid, 0 if number == signal.SIGTRAP else number)
+    yield Process(run.pid)
+    ptrace(CONT, run.pid)
+    run.stdout.read()
+    run.wait()
 
 
 # The moments.
@@ -307,16 +310,11 @@ class Trial:
         self.empty(image)
         subprocess.run([self.geli, *self.init_words(image, iterations)], check=True, stdout=subprocess.DEVNULL)
 
-    def master(self, image):
-        """The master key of an image that opens with the first key."""
-        return Derived(Metadata(image), self.key_files, self.passphrase).master()
-
-    def secrets(self, image, of="", numbers=range(RANGES)):
+    def secrets(self, image, numbers=range(RANGES)):
         """All secrets of an image under the first key, and what was written."""
-        meta = Metadata(image)
-        derived = Derived(meta, self.key_files, self.passphrase)
-        yield from ring_secrets(of, meta, derived.master(), numbers)
-        yield from derived.secrets(of)
+        derived = Derived(Metadata(image), self.key_files, self.passphrase)
+        yield from ring_secrets(derived.meta, derived.master(), numbers)
+        yield from derived.secrets()
         yield from self.given()
         for text in self.written:
             yield Secret("plain data", DATA, text, "digits")
@@ -384,22 +382,18 @@ class Trial:
         self.look("ejected", script, self.secrets("b.img"))
         script.end()
 
-    def new_secrets(self, old):
-        """Those of a provider with a new key, and those of its old one."""
-        derived = Derived(Metadata("b.img"), self.files["n1"], self.line("q"))
-        yield from old
-        yield from derived.secrets("new ")
-        assert derived.master() == self.old_master
-
     def setkey(self):
         old = list(self.secrets("b.img"))
-        self.old_master = self.master("b.img")
+        master = Derived(Metadata("b.img"), self.key_files, self.passphrase).master()
         script = Script(self.geli, "b.img")
         script.ask(f"setkey -k k1 -k k2 -j wrong {NEW} b.img", "error 15 ")
         self.look("setkey refused", script, old)
         script.ask(f"setkey -i {ITERATIONS} {KEY} {NEW} b.img")
-        self.look("after setkey, idle", script, self.new_secrets(old))
+        derived = Derived(Metadata("b.img"), self.files["n1"], self.line("q"))
+        assert derived.master() == master
+        self.look("after setkey, idle", script, [*old, *derived.secrets("new ")])
         script.ask("attach -k n1 -j q b.img")
+        # The salt stays, so it is the old key again.
         script.ask(f"setkey {SET} b.img")
         self.look("after setkey, attached", script, old, SERVING)
         script.ask("kill b.img")
@@ -429,8 +423,7 @@ class Trial:
             assert client.request(0, offset, 512) == text
         client.until_it_waits()
         self.look("geli-nbd after 1,000 requests", client, self.secrets("a.img"), REQUESTS)
-        Ended.seize(client.run)
-        with Ended.stopped(client.run) as process:
+        with input_at_end(client.run) as process:
             self.look("geli-nbd at its end", process, self.secrets("a.img"))
 
     # The ends of the programs.
@@ -440,17 +433,14 @@ class Trial:
                  "attach -C, wrong": ["attach", "-C", "-k", "k1", "-j", "wrong", "a.img"],
                  "init": self.init_words("b.img"), "setkey": ["setkey", *KEY.split(), *SET.split(), "b.img"]}
         for name, command in words.items():
-            run = Ended.of_command([self.geli, *command])
-            with Ended.stopped(run) as process:
+            with command_at_end([self.geli, *command]) as process:
                 self.look(f"geli {name}, at its end", process, self.secrets(command[-1]))
         script = Script(self.geli, "a.img")
         script.ask(f"attach {KEY} a.img")
         script.ask(self.write_line(0))
-        Ended.seize(script.run)
-        with Ended.stopped(script.run) as process:
+        with input_at_end(script.run) as process:
             self.look("geli script, at its end", process, self.secrets("a.img"))
-        run = Ended.of_command([self.geli_nbd, "-k", "k1", "-j", "wrong", "a.img"])
-        with Ended.stopped(run) as process:
+        with command_at_end([self.geli_nbd, "-k", "k1", "-j", "wrong", "a.img"]) as process:
             self.look("geli-nbd refused, at its end", process, self.secrets("a.img"))
 
     def script(self):
@@ -515,7 +505,7 @@ class Trial:
         """Looks at each process of a script. The program that serves has what serving needs."""
         derived = Derived(Metadata("one.img"), self.files["k1"], self.line("p1"))
         secrets = [Secret("passphrase", GIVEN, self.files["p1"]), Secret("key file", GIVEN, self.files["k1"]),
-                   *ring_secrets("", derived.meta, derived.master(), [0]), *derived.secrets("")]
+                   *ring_secrets(derived.meta, derived.master(), [0]), *derived.secrets()]
         for number, name in marked(mark):
             with contextlib.suppress(FileNotFoundError, ProcessLookupError):  # it may have ended
                 is_program = os.path.basename(os.readlink(f"/proc/{number}/exe")).startswith("geli-nbd")
@@ -615,7 +605,7 @@ def look_elsewhere(number, serves, key_files, passfiles, image):
     texts = [open(name, "rb").read() for name in key_files]
     lines = [open(name, "rb").read().partition(b"\n")[0] for name in passfiles]
     derived = Derived(Metadata(image), b"".join(texts), b"".join(lines) if lines else None)
-    secrets = [*ring_secrets("", derived.meta, derived.master(), range(RANGES)), *derived.secrets("")]
+    secrets = [*ring_secrets(derived.meta, derived.master(), range(RANGES)), *derived.secrets()]
     secrets += [Secret("key file", GIVEN, text) for text in texts]
     secrets += [Secret("passphrase", GIVEN, line) for line in lines]
     table = Table()

@@ -37,9 +37,13 @@ esac
 
 # A script that may stop halfway says here what it leaves then, and how to go on.
 left() { :; }
-private='' secrets=() on_disk=''
+private='' secrets=() on_disk='' asker=''
 at_end() {
     local status=$? descriptor
+    if [ -n "$asker" ]; then # it shows again what is typed
+        kill "$asker" 2>/dev/null || :
+        wait "$asker" || :
+    fi
     if [ "$status" != 0 ]; then left; fi
     for descriptor in ${secrets[@]+"${secrets[@]}"}; do : >|"/dev/fd/$descriptor"; done
     if [ -n "$private" ]; then rm -rf -- "$private"; fi
@@ -321,11 +325,12 @@ new_passphrase() {
 
 # ask_passphrase WHAT [twice]: asks at the terminal, and sets `secret` to a file whose first line the answer is.
 ask_passphrase() {
+    local -i status=0
     has_terminal || fail "no terminal to ask for the $1: name a file whose first line it is, by -j (a new one: -J)"
     secret_file
     trap '' TSTP # one that was stopped here would go on with what is typed shown
     (
-        trap 'exit 130' INT TERM HUP
+        trap - INT TERM HUP
         IFS= read -r -s -p "$1: " first </dev/tty || fail 'nothing was typed'
         printf '\n' >/dev/tty
         [ -n "$first" ] || fail "the $1 is empty"
@@ -335,7 +340,11 @@ ask_passphrase() {
             [ "$first" = "$second" ] || fail 'the two differ, nothing was done'
         fi
         printf '%s\n' "$first" >"$secret"
-    ) || exit
+    ) &
+    asker=$! # a signal to this shell is heard meanwhile
+    wait "$asker" || status=$?
+    asker=''
+    [ "$status" = 0 ] || exit "$status"
     trap - TSTP
 }
 

@@ -11,8 +11,8 @@ in which forms: so also what the allocator has written over the beginning of. Th
 just before they exit.
 
 The table has what was found, and in how many places of the stack, of the heap and of the rest: the most of RUNS. What
-an attached provider needs is wanted while it is attached, and what requests make of it and the data in it after
-requests; nothing else is, nor is anything at any other moment. The scripts are tried too where nbdkit, nbdfuse and
+an attached provider needs is wanted on the heap while it is attached. After requests what they make of it and data are
+wanted too, also on the stack. Nothing else is, nor is anything at any other moment. The scripts are tried too where nbdkit, nbdfuse and
 fuse2fs are there: a passphrase is typed to them, and nothing of it may be in a process of theirs but the programs.
 
 -o: only these: script, nbd, ends, scripts. --look, for a process of one's own, tells all that it finds; with -s it
@@ -133,7 +133,7 @@ class Table:
         self.looks += 1
         self.moments.setdefault(moment, len(self.moments))
         for (secret, part), count in process.find(windows(secrets)).items():
-            is_wanted = secret.group in wanted
+            is_wanted = secret.group in wanted and (part != "stack" or DATA in wanted)
             self.unwanted += not is_wanted
             cell = self.rows.setdefault((moment, is_wanted, secret.name), {}).setdefault(kind, {})
             cell[part] = max(cell.get(part, 0), count)

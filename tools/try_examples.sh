@@ -1077,7 +1077,7 @@ settle()
 if b"Stopped" in said:
     os.write(terminal, b"fg\n")
     settle()
-os.write(terminal, b"secret words\n")
+os.write(terminal, b"secret words of more than 32 bytes\n")
 settle(b"prompt$ ")
 sys.stdout.buffer.write(said)
 EOS

@@ -17,6 +17,8 @@ fuse2fs are there: a passphrase is typed to them, and nothing of it may be in a 
 
 -o: only these: script, nbd, ends, scripts. --look, for a process of one's own, tells all that it finds; with -s it
 serves the provider, and what serving needs is wanted. The status is 1 where something is found that isn't wanted.
+Give it proved programs: in what is built without a proof nothing keeps `scrub` of the crate wiping from being inlined,
+and what calls leave then lies below the room that it overwrites.
 Outside the gate. It needs the package `cryptography` of Python, and the right to read the memory of its children.
 """
 import argparse

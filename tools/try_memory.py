@@ -12,8 +12,9 @@ just before they exit.
 
 The table has what was found, and in how many places of the stack, of the heap and of the rest: the most of RUNS. What
 an attached provider needs is wanted on the heap while it is attached. After requests what they make of it and data are
-wanted too, also on the stack. Nothing else is, nor is anything at any other moment. The scripts are tried too where nbdkit, nbdfuse and
-fuse2fs are there: a passphrase is typed to them, and nothing of it may be in a process of theirs but the programs.
+wanted too, also on the stack. Nothing else is, nor is anything at any other moment. The scripts are tried too where
+nbdkit and what a mount needs are there: a passphrase is typed to them, and nothing of it may be in a process of theirs
+but the programs.
 
 -o: only these: script, nbd, ends, scripts. --look, for a process of one's own, tells all that it finds; with -s it
 serves the provider, and what serving needs is wanted. The status is 1 where something is found that isn't wanted.
@@ -579,7 +580,7 @@ class Typed:
 
 
 def has_clients():
-    names = ("nbdkit", "nbdfuse", "fusermount3", "fuse2fs", "mke2fs")
+    names = ("nbdkit", "fusermount3", "fuse2fs", "mke2fs")
     lacking = [name for name in names if not shutil.which(name, path=os.environ["PATH"] + ":/usr/sbin:/sbin")]
     if lacking or not os.access("/dev/fuse", os.W_OK):
         print(f"not tried: the scripts ({', '.join(lacking) or '/dev/fuse'} is missing)")

@@ -80,7 +80,7 @@ def open_by(session, key):
         if number in ("9", "10", "11", "12", "13"):
             stop(session, f"metadata: whole, but nobody can open their provider here: {told(reply)}")
         stop(session, f"key: {told(reply)}", *helps.get(number, []))
-    session.look()
+    session.look(key)
 
 
 def read_all(session):

@@ -49,7 +49,7 @@ def standing(geli, source, image, key, file):
     if is_new(file):
         return
     session = Session(geli, image)
-    session.attach(key)
+    session.attach(key, is_last=False)
     session.must_hold(source)
     data, size = session.beginning(), session.sectors * session.width
     session.must("detach", image)

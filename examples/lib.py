@@ -106,6 +106,12 @@ def descriptors_of(key):
     return [int(word) for word in re.findall(r"(?<!\S)/dev/fd/(\d+)(?!\S)", key)]
 
 
+def forget(key):
+    """No typed passphrase of these words is needed any more: who still has its file open finds nothing in it."""
+    for number in descriptors_of(key):
+        os.truncate(number, 0)
+
+
 def close_others(kept):
     """Closes all open files but the standard streams and those of these numbers: a program in the background keeps no
     pipe of its caller's open, which others may wait for."""
@@ -382,14 +388,16 @@ class Session:
         self.say(*words)
         return self.reply()
 
-    def attach(self, *words):
+    def attach(self, *words, is_last=True):
+        """Attaches by a key, which is forgotten unless something else needs it."""
         if sys.stderr.isatty():
             note("deriving the key ...")
         self.must("attach", *words, self.image)
-        self.look()
+        self.look(" ".join(words) if is_last else "")
 
-    def look(self):
-        """Takes the sizes of the attached provider."""
+    def look(self, key=""):
+        """Takes the sizes of the attached provider. Nothing needs this key any more."""
+        forget(key)
         rows, _ = self.must("list")
         self.width, self.sectors = map(int, rows[0].split(" ")[2:])
 

@@ -37,9 +37,13 @@ esac
 
 # A script that may stop halfway says here what it leaves then, and how to go on.
 left() { :; }
-private='' secrets=()
+private='' secrets=() on_disk='' asker=''
 at_end() {
     local status=$? descriptor
+    if [ -n "$asker" ]; then # it shows again what is typed
+        kill "$asker" 2>/dev/null || :
+        wait "$asker" || :
+    fi
     if [ "$status" != 0 ]; then left; fi
     for descriptor in ${secrets[@]+"${secrets[@]}"}; do : >|"/dev/fd/$descriptor"; done
     if [ -n "$private" ]; then rm -rf -- "$private"; fi
@@ -66,6 +70,15 @@ private_folder() {
     mkdir -- "$private" || { private='' && fail "no private folder in $memory"; }
 }
 
+# Says it once if the folder is on a disk, which may keep what was removed.
+tell_disk() {
+    case ${on_disk:=$(stat -f -c %T -- "$memory")} in
+        tmpfs | ramfs | told) ;;
+        *) on_disk=told && note "note: a passphrase goes to a removed file on the disk of '$memory'" \
+            '(XDG_RUNTIME_DIR names a folder in memory)' ;;
+    esac
+}
+
 # secret_file: sets `secret` to the name /dev/fd/N of a new, empty file in memory that is in no folder. The programs
 # that are started here have it too, and can open it again and again. Nothing of it is left once they all have ended,
 # however they end, by SIGKILL too.
@@ -75,6 +88,7 @@ secret_file() {
     name=$(mktemp "$memory/geli.XXXXXXXXXX") || fail "no file for a passphrase can be made in $memory"
     exec {descriptor}<>"$name"
     rm -f -- "$name"
+    tell_disk
     secrets+=("$descriptor")
     secret=/dev/fd/$descriptor
 }
@@ -293,34 +307,45 @@ stays() {
     fi
 }
 
+# What looks at a passphrase, or asks for one, does it in a shell of its own that ends with that: so the script's own
+# memory never has it, for however long the script runs.
+
 # new_passphrase NAME: sets `stays` to a passphrase file that a new key is to be made of. An empty passphrase is
 # refused.
 new_passphrase() {
-    local line
     stays "$1"
-    IFS= read -r line <"$stays" || [ -n "$line" ] || fail "the passphrase file '$1' is empty"
-    case $line in
-        '') fail "the first line of the passphrase file '$1' is empty" ;;
-        *$'\r') note "note: the passphrase in '$1' ends with a carriage return, which counts" ;;
-    esac
+    (
+        IFS= read -r line <"$stays" || [ -n "$line" ] || fail "the passphrase file '$1' is empty"
+        case $line in
+            '') fail "the first line of the passphrase file '$1' is empty" ;;
+            *$'\r') note "note: the passphrase in '$1' ends with a carriage return, which counts" ;;
+        esac
+    ) || exit
 }
 
 # ask_passphrase WHAT [twice]: asks at the terminal, and sets `secret` to a file whose first line the answer is.
 ask_passphrase() {
-    local first second
+    local -i status=0
     has_terminal || fail "no terminal to ask for the $1: name a file whose first line it is, by -j (a new one: -J)"
-    trap '' TSTP # one that was stopped here would go on with what is typed shown
-    IFS= read -r -s -p "$1: " first </dev/tty || fail 'nothing was typed'
-    printf '\n' >/dev/tty
-    [ -n "$first" ] || fail "the $1 is empty"
-    if [ "${2:-}" = twice ]; then
-        IFS= read -r -s -p "$1, again: " second </dev/tty || fail 'nothing was typed'
-        printf '\n' >/dev/tty
-        [ "$first" = "$second" ] || fail 'the two differ, nothing was done'
-    fi
-    trap - TSTP
     secret_file
-    printf '%s\n' "$first" >"$secret"
+    trap '' TSTP # one that was stopped here would go on with what is typed shown
+    (
+        trap - INT TERM HUP
+        IFS= read -r -s -p "$1: " first </dev/tty || fail 'nothing was typed'
+        printf '\n' >/dev/tty
+        [ -n "$first" ] || fail "the $1 is empty"
+        if [ "${2:-}" = twice ]; then
+            IFS= read -r -s -p "$1, again: " second </dev/tty || fail 'nothing was typed'
+            printf '\n' >/dev/tty
+            [ "$first" = "$second" ] || fail 'the two differ, nothing was done'
+        fi
+        printf '%s\n' "$first" >"$secret"
+    ) &
+    asker=$! # a signal to this shell is heard meanwhile
+    wait "$asker" || status=$?
+    asker=''
+    [ "$status" = 0 ] || exit "$status"
+    trap - TSTP
 }
 
 # The options -k, -j and -p of a key: `key_option LETTER VALUE` for each, then `key_ready`.

@@ -973,7 +973,7 @@ says "  and none of them is shown" test "$(grep -c "$esc" told)" = 0
 kill $held
 wait $held 2>notes
 
-# A typed passphrase, and one of a pipe: in no file, and in no core.
+# A typed passphrase, and one of a pipe: in no file, in no process of a script, and in no core.
 waits() { # PROGRAM: one that looks, tells and then does nothing for a while
     cat <<EOS
 #!/bin/bash
@@ -986,9 +986,18 @@ EOS
 waits "$GELI" >waits && waits "$GELI_NBD" >waits-nbd
 chmod +x waits waits-nbd
 cat >typed.py <<'EOS'
-# typed.py FOLDER COMMAND...: types a passphrase at each prompt; once the program has begun: which files have it. Then
-# all that was started is killed, and it says what is left in the folder.
+# typed.py FOLDER COMMAND...: types a passphrase at each prompt; once the program has begun: which files and processes
+# have it, also its end alone. Then all that was started is killed, and it says what is left in the folder.
 import os, pty, select, signal, subprocess, sys, time
+def has_it(number):
+    with open(f"/proc/{number}/maps") as rows, open(f"/proc/{number}/mem", "rb", 0) as memory:
+        for row in rows:
+            place, rights = row.split(" ")[:2]
+            if rights.startswith("rw"):
+                first, end = (int(digits, 16) for digits in place.split("-"))
+                if b"of more than 32 bytes" in os.pread(memory.fileno(), end - first, first):
+                    return True
+    return False
 folder, reached = sys.argv[1], "reached"
 process, terminal = pty.fork()
 if process == 0:
@@ -1002,7 +1011,7 @@ while not os.path.exists(reached) and time.monotonic() < until:
         except OSError:
             break
         if said.rstrip().endswith((b"passphrase:", b"again:")):
-            os.write(terminal, b"secret words\n")
+            os.write(terminal, b"secret words of more than 32 bytes\n")
             said += b"\n"
 if not os.path.exists(reached):
     print("the program isn't reached", said)
@@ -1012,13 +1021,15 @@ for number in filter(str.isdigit, os.listdir("/proc")):
     try:
         with open(f"/proc/{number}/environ", "rb") as file:
             if f"XDG_RUNTIME_DIR={folder}\0".encode() in file.read():
+                if has_it(number):
+                    print("a process has it:", os.readlink(f"/proc/{number}/exe"))
                 os.kill(int(number), signal.SIGKILL)
     except OSError:
         pass
 for name in subprocess.run(["grep", "-rl", "secret words", folder], stdout=subprocess.PIPE).stdout.split():
     print("a file has it behind SIGKILL:", name)
 EOS
-printf 'secret words\n' >secret
+printf 'secret words of more than 32 bytes\n' >secret
 truncate -s 1M s.img && "$GELI" init -i 100 -K key -J secret s.img >out
 mkdir shm target
 hides() { # NAME WORDS...: what has a passphrase that is typed, or comes by a pipe
@@ -1035,7 +1046,7 @@ for words in 'after-a-power-failure.sh -k key s.img' 'copy-out.sh -k key s.img n
         mount*) have nbdfuse fusermount3 && [ -w /dev/fuse ] || continue ;;
     esac
     (ulimit -c unlimited 2>notes; hides "$top/examples/${words[0]}" "${words[@]:1}") >left
-    says "no file has the passphrase that is typed to ${words[0]}" test ! -s left
+    says "no file or process has the passphrase that is typed to ${words[0]}" test ! -s left
     says "  nor would a core" test "$(cat cores)" = 0
 done
 piped() { hides bash -c '"$1" -k key -j <(cat secret) s.img new.out' - "$out"; }
@@ -1066,7 +1077,7 @@ settle()
 if b"Stopped" in said:
     os.write(terminal, b"fg\n")
     settle()
-os.write(terminal, b"secret words\n")
+os.write(terminal, b"secret words of more than 32 bytes\n")
 settle(b"prompt$ ")
 sys.stdout.buffer.write(said)
 EOS

@@ -229,6 +229,37 @@ fn a_flush_of_a_layer_syncs_its_files(rt: HostRuntime) -> Result<(), Fail> {
     Ok(())
 }
 
+// Whether the image of a name says that room was wanting only once a write of it failed so, and says it still after a
+// write that was done.
+fn says_that_room_was_wanting<D: Disk>(image: &mut D) -> bool {
+    2 < image.sectors()
+        && image.write(1, &[9; 512]).is_ok()
+        && !image.wants_room()
+        && image.write(1, &[9; 512]).is_err()
+        && image.wants_room()
+        && image.write(1, &[9; 512]).is_ok()
+        && image.wants_room()
+}
+
+// The second write fails, as on a device that is full.
+#[test]
+fn a_full_device_is_told(rt: HostRuntime) -> Result<(), Fail> {
+    let alloc = rt.alloc();
+    let mut fails = Vec::new(alloc);
+    fails.push(FailAt {
+        kind: CallKind::Write,
+        nth: 2,
+        lands: false,
+    })?;
+    let changes: Changes = Rc::new(alloc, RefCell::new(Vec::new(alloc)))?;
+    let mut opener = MemFiles::new(rt.clone()?, alloc, fails, 1, none_seen(alloc)?, changes)?;
+    let mut files = Vec::new(alloc);
+    let mut image = open_image(alloc, &mut opener, &mut files, true, "a.img")?;
+    let says = says_that_room_was_wanting(&mut image);
+    assert!(rt; says);
+    Ok(())
+}
+
 // SHA-256 of the lines that the case `ordinary-session` wants.
 const OUTPUT: [u8; 32] = [
     0x1a, 0xa5, 0x61, 0x46, 0x58, 0x03, 0xdb, 0xcf, 0xc5, 0xab, 0x01, 0xc5, 0x2a, 0x48, 0x02, 0x59,

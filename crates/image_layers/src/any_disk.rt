@@ -126,7 +126,7 @@ impl<F: ImageFile + Drop> Disk for ImageDisk<F> {
     fn wants_room(&self) -> bool {
         match self {
             ImageDisk::Plain(disk) => disk.wants_room(),
-            ImageDisk::Behind(_) | ImageDisk::Join(_) => false,
+            ImageDisk::Join(_) | ImageDisk::Behind(_) => false,
         }
     }
 }

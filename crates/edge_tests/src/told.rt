@@ -1,9 +1,11 @@
 //! Runs of words over files in memory that report what they hold.
+use crate::disk_file::DiskFile;
 use crate::mem_files::{Changes, MemFiles, counted, none_seen};
 use crate::mem_folder::MemFolder;
-use crate::seen_disk::Seen;
+use crate::seen_disk::{Seen, SeenDisk};
 use block_traits::{Disk, Event};
 use crash_disk::{CallKind, FailAt, MemSink, MemSource};
+use file_edge::FileDisk;
 use geli_core::Status;
 use image_layers::open_image;
 use image_run::run_files;
@@ -229,9 +231,9 @@ fn a_flush_of_a_layer_syncs_its_files(rt: HostRuntime) -> Result<(), Fail> {
     Ok(())
 }
 
-// Whether the image of a name says that room was wanting only once a write of it failed so, and says it still after a
-// write that was done.
-fn says_that_room_was_wanting<D: Disk>(image: &mut D) -> bool {
+// Whether a disk says that room was wanting only once a write of it failed so, and says it still after a write that was
+// done.
+fn says_that_room_was_wanting(image: &mut FileDisk<DiskFile<SeenDisk>>) -> bool {
     2 < image.sectors()
         && image.write(1, &[9; 512]).is_ok()
         && !image.wants_room()
@@ -253,8 +255,7 @@ fn a_full_device_is_told(rt: HostRuntime) -> Result<(), Fail> {
     })?;
     let changes: Changes = Rc::new(alloc, RefCell::new(Vec::new(alloc)))?;
     let mut opener = MemFiles::new(rt.clone()?, alloc, fails, 1, none_seen(alloc)?, changes)?;
-    let mut files = Vec::new(alloc);
-    let mut image = open_image(alloc, &mut opener, &mut files, true, "a.img")?;
+    let mut image = FileDisk::open(&mut opener, &[], true, "a.img");
     let says = says_that_room_was_wanting(&mut image);
     assert!(rt; says);
     Ok(())

@@ -25,7 +25,7 @@ module _ {F : Type 0} (f : image_file.Ghosts F) where
   LocksToChange true done old new = Locks done old new
 
   -- a file that isn't too large is served if it is to be read, or could be locked
-  pub record Takes (changes : Bool) (size : ℕ) (served : Option ℕ) (old new : F) : Type 0 where
+  pub record TakesSize (changes : Bool) (size : ℕ) (served : Option ℕ) (old new : F) : Type 0 where
     pub done : Bool
     pub held : LocksToChange changes done old new
     pub size_is : served ≡ (if done then Some size else None)
@@ -34,7 +34,7 @@ module _ {F : Type 0} (f : image_file.Ghosts F) where
   abbrev pub TakesTo : Bool → Option ℕ → Option ℕ → F → F → Type 0
   TakesTo changes None served old new = (served ≡ None) × (new ≡ old)
   TakesTo changes (Some size) served old new =
-      (size < 2 ^ 53 → Takes changes size served old new) × (2 ^ 53 ≤ size → (served ≡ None) × (new ≡ old))
+      (size < 2 ^ 53 → TakesSize changes size served old new) × (2 ^ 53 ≤ size → (served ≡ None) × (new ≡ old))
 
   -- the end of a file is found, and then it is taken; nothing else is asked of it
   pub record FindsEnd (changes : Bool) (served : Option ℕ) (old new : F) : Type 0 where

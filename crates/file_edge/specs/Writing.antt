@@ -18,9 +18,9 @@ why_of QuotaExceeded = NoRoom
 why_of kind = Failed
 
 -- what a write of a file came to
-abbrev pub written : Result (Unit {0}) Error → Result (Unit {0}) Unwritten
-written (Ok done) = Ok done
-written (Err error) = Err (why_of (error_kind error))
+abbrev pub write_answer : Result (Unit {0}) Error → Result (Unit {0}) Unwritten
+write_answer (Ok done) = Ok done
+write_answer (Err error) = Err (why_of (error_kind error))
 
 -- why a write failed of which it is known whether room was wanting
 abbrev pub why_if : Bool → Unwritten
@@ -42,7 +42,7 @@ module _ {F : Type 0} (f : image_file.Ghosts F) (at : ℕ) (bytes : List ℕ) (a
   pub record PutsBytesThere (old new : F) : Type 0 where
     pub result : Result (Unit {0}) Error
     pub answered : f.writes old at bytes result
-    pub why : answer ≡ written result
+    pub why : answer ≡ write_answer result
     pub log : f.calls new ≡ more (WriteAt at bytes ∷ []) (f.calls old)
 
   -- nothing was to be written

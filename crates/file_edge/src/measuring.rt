@@ -1,7 +1,7 @@
 //! An open file is looked at before it is served as an image.
 ghost use Rattle.std.specs.Prelude.{◌≡◌, ◌<◌, ◌^◌, IfSome, IsNone, false};
 ghost use Rattle.file_edge.specs.ImageFile.{IsUncalled};
-ghost use Rattle.file_edge.specs.Measuring.{FindsEnd, IsMeasured, LocksToChange, Takes, unserved};
+ghost use Rattle.file_edge.specs.Measuring.{FindsEnd, IsMeasured, LocksToChange, TakesSize, unserved};
 ghost use Rattle.file_edge.specs.Told.{EndsTold};
 
 use crate::found::{FileId, is_free};
@@ -40,7 +40,7 @@ fn hold<F: ImageFile>(file: &mut F, changes: bool) -> bool
 fn take<F: ImageFile>(file: &mut F, changes: bool, size: u64) -> Option<u64>
     requires uncalled { IsUncalled (F.calls file.old) }
     requires free { F.held file.old ≡ false }
-    ensures takes { Takes (⟦<F as ImageFile>⟧) changes size result file.old file.new }
+    ensures takes { TakesSize (⟦<F as ImageFile>⟧) changes size result file.old file.new }
     ensures told { F.told file.new ≡ F.told file.old }
     ensures size { IfSome result (λ is. is ≡ size) }
     ensures free { IsNone result → F.held file.new ≡ false }

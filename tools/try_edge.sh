@@ -78,11 +78,17 @@ for name in pipe sub /dev/null absent; do
 done
 
 says "the program waits for nobody who holds an image" flock c.img true
+tr '\0' a <copy >c.img # a zero that is written to it would show
 flock c.img sleep 3 &
 sleep 0.5
 cp c.img copy
 says "an image that another run holds isn't changed" answers 1 "error 26 DeviceFault" init -P -K k.key c.img
 says "  and stays" same c.img copy
+wait
+fresh
+"$program" init -P -K k.key c.img >out
+flock c.img sleep 3 &
+sleep 0.5
 says "  dump reads it" answers 0 ok dump c.img
 says "  attach -C reads it" answers 0 ok attach -C -p -k k.key c.img
 wait
@@ -118,6 +124,30 @@ fi
 ) 2>&1 | cat >out
 says "a write that the system refuses is told" grep -q "^error 26 DeviceFault$" out
 says "  and nothing is stored" test ! -e limited
+
+# limited BYTES WORDS...: the program may make or reach no file beyond so many bytes
+limited() {
+    (
+        trap '' XFSZ
+        prlimit --fsize="$1" "$program" "${@:2}"
+    ) 2>/dev/null
+}
+fresh
+"$program" init -P -K k.key c.img >out
+says "a stored file of which the system takes a part is refused" test "$(limited 256 backup c.img part)" = "error 28 CabinetFault 2"
+says "  and no part of it is left" test -z "$(ls part* 2>/dev/null)"
+head -c 2048 /dev/zero >e.img
+"$program" init -P -K k.key e.img >out
+says "a write of which the system takes a part is refused" test "$(printf '%s\n' "attach -p -k k.key e.img" "write e.img 1 $(head -c 1024 /dev/zero | tr '\0' a | od -An -v -tx1 | tr -d ' \n')" | limited 1024 script e.img | head -n 2 | paste -sd,)" = "ok,error 26 DeviceFault"
+
+# Of random bytes no eight come twice: the salts of two providers, and their keys.
+cp c.img d.img
+"$program" init -P -K k.key d.img >out
+salt() { "$program" dump "$1" | sed -n 's/^ *salt: *//p'; }
+eights() { fold -w 16 | sort | uniq -d; }
+says "the salts of two providers differ, and repeat nothing" test -z "$(printf '%s%s' "$(salt c.img)" "$(salt d.img)" | eights)"
+says "  nor do their key slots" test -z "$(for at in c.img d.img; do tail -c 512 $at | tail -c +130 | head -c 192 | od -An -v -tx1 | tr -d ' \n'; done | eights)"
+says "  and both have one" test "$(salt c.img | tr -d '\n' | wc -c) $(salt d.img | tr -d '\n' | wc -c)" = "128 128"
 
 if loop=$(losetup -f --show c.img 2>/dev/null); then
     says "a block device is an image" answers 0 ok init -P -K k.key "$loop"
@@ -319,6 +349,8 @@ if strace -qq -o traced -e inject=fdatasync:error=EIO:when=1 true 2>/dev/null; t
     says "a sync that failed stays failed, and all else goes on" test "$(broken fdatasync:error=EIO:when=1 <<<"$session")" = "ok,ok,$fault,ok ${a:0:21},$fault,$fault,ok,$fault,$fault"
     says "  and the system isn't asked again" test "$(grep -c fdatasync traced)" = 1
     says "a sync that fails at the end is told" test "$(broken fdatasync:error=EIO:when=1 < <(head -n 2 <<<"$session"))" = "ok,ok,$fault"
+    says "a lock that fails for another reason is none" test "$(broken flock:error=ENOLCK:when=1 <<<"$attach c.img")" = "$fault"
+    says "  and isn't asked for again" test "$(grep -c flock traced)" = 1
     for call in pread64 pwrite64 fdatasync; do
         says "$call that a signal interrupts is called again" test "$(broken $call:error=EINTR:when=1 <<<"$session")" = "ok,ok,ok,ok ${a:0:21},ok,ok,ok,ok"
         says "  as was tried" grep -q INJECTED traced

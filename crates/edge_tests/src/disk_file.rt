@@ -1,5 +1,5 @@
 //! A file whose sectors are those of a disk, and which reports what the disk does.
-ghost use Rattle.std.specs.Prelude.{◌≡◌, ◌≤◌, ◌*◌, IfOk, None, Some, drop, length};
+ghost use Rattle.std.specs.Prelude.{◌≡◌, ◌≤◌, ◌*◌, IfOk, None, Some, drop, false, length};
 
 use block_traits::{ByteList, Disk};
 use file_edge::{FileId, FileKind, Found, ImageFile};
@@ -13,6 +13,7 @@ pub struct DiskFile<D: Disk> {
     id: FileId,
     bytes: Vec<u8>,
     given: usize,
+    held: bool,
     ghost within: { given ≤ length bytes.items },
 }
 
@@ -23,12 +24,14 @@ impl<D: Disk> DiskFile<D> {
         ensures id { result.id ≡ id }
         ensures bytes { result.bytes ≡ bytes }
         ensures given { result.given ≡ 0 }
+        ensures free { result.held ≡ false }
     {
         DiskFile {
             disk,
             id,
             bytes,
             given: 0,
+            held: false,
         }
     }
 }
@@ -42,15 +45,17 @@ impl<D: Disk> ImageFile for DiskFile<D> {
 
     ghost tells = { λ file found. IfOk found (λ is. is.id ≡ file.id) };
 
-    ghost locks = { λ _ _. Unit {0} };
+    ghost locks = { λ _ _ _. Unit {0} };
 
-    ghost ends = { λ file end. end ≡ Some (512 * (D.state file.disk).size) };
+    ghost ends = { λ file end _. end ≡ Some (512 * (D.state file.disk).size) };
 
     ghost reads = { λ _ _ _. Unit {0} };
 
     ghost writes = { λ _ _ _ _. Unit {0} };
 
     ghost syncs = { λ _ _. Unit {0} };
+
+    ghost held = { λ file. file.held };
 
     ghost calls = { λ _. None };
 
@@ -69,12 +74,18 @@ impl<D: Disk> ImageFile for DiskFile<D> {
         })
     }
 
-    fn lock(&self) -> io::Result<()> {
+    fn lock(&mut self) -> io::Result<()> {
+        self.held = true;
         Ok(())
     }
 
+    fn is_held(&self) -> bool {
+        self.held
+    }
+
     #[tactic(auto, using(crate::proofs::LoggedFile::ends_told))]
-    fn end(&self) -> io::Result<u64> {
+    fn end(&mut self) -> io::Result<u64> {
+        self.given = self.bytes.len();
         Ok(512 * self.disk.sectors())
     }
 

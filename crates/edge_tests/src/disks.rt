@@ -1,6 +1,6 @@
 //! The disks of images over the system's own files.
 use block_traits::Disk;
-use file_edge::{FileDisk, FileId, FileKind, ImageFile, Opener, SystemFiles};
+use file_edge::{FileDisk, FileId, FileKind, ImageFile, Opener, SystemFile, SystemFiles};
 use image_layers::open_image;
 use std::alloc::{AllocError, Global};
 use std::fs::{self, File, OpenOptions};
@@ -8,29 +8,29 @@ use std::os::unix::fs::symlink;
 use std::test::Fail;
 
 // The disk of a file, beside no other.
-fn disk_of(rt: &HostRuntime, changes: bool, name: &str) -> Result<FileDisk<File>, Fail> {
+fn disk_of(rt: &HostRuntime, changes: bool, name: &str) -> Result<FileDisk<SystemFile>, Fail> {
     let mut files = SystemFiles::new(rt.clone()?);
     Ok(FileDisk::open(&mut files, &[], changes, name))
 }
 
 // Whether a sector takes this byte at each place.
-fn takes(disk: &mut FileDisk<File>, n: u64, byte: u8) -> bool {
+fn takes(disk: &mut FileDisk<SystemFile>, n: u64, byte: u8) -> bool {
     n < disk.sectors() && disk.write(n, &[byte; 512]).is_ok()
 }
 
 // Whether sectors 1 and 2 take this byte at each place, by one write.
-fn take(disk: &mut FileDisk<File>, byte: u8) -> bool {
+fn take(disk: &mut FileDisk<SystemFile>, byte: u8) -> bool {
     2 < disk.sectors() && disk.write_sectors(1, &[byte; 1024]).is_ok()
 }
 
 // Whether a sector has this byte at each place.
-fn has(disk: &mut FileDisk<File>, n: u64, byte: u8) -> bool {
+fn has(disk: &mut FileDisk<SystemFile>, n: u64, byte: u8) -> bool {
     let mut bytes = [0; 512];
     n < disk.sectors() && disk.read(n, &mut bytes).is_ok() && bytes == [byte; 512]
 }
 
 // Whether a disk of three sectors has and takes bytes.
-fn serves(disk: &mut FileDisk<File>) -> bool {
+fn serves(disk: &mut FileDisk<SystemFile>) -> bool {
     let before = disk.sectors() == 3 && has(disk, 1, 7) && has(disk, 2, 7);
     let one = before
         && takes(disk, 2, 3)
@@ -42,7 +42,7 @@ fn serves(disk: &mut FileDisk<File>) -> bool {
 
 // Whether the disk takes bytes if its file has 1,100 left: sector 1 stands before the end, and a write that reaches
 // beyond the end is refused whole.
-fn serves_the_front(disk: &mut FileDisk<File>) -> bool {
+fn serves_the_front(disk: &mut FileDisk<SystemFile>) -> bool {
     takes(disk, 1, 5) && !takes(disk, 2, 6) && !take(disk, 6)
 }
 
@@ -68,7 +68,7 @@ fn a_file_is_a_disk(rt: HostRuntime) -> Result<(), Fail> {
         device: 1,
         number: 2,
     };
-    let mut null = FileDisk::of_file(File::open(&rt, "/dev/null")?, null, 0);
+    let mut null = FileDisk::of_file(SystemFile::new(File::open(&rt, "/dev/null")?), null, 0);
     assert!(rt; null.flush().is_err());
     Ok(())
 }
@@ -195,8 +195,7 @@ fn more_than_may_wait_ends_in_its_file(rt: HostRuntime) -> Result<(), Fail> {
     Ok(())
 }
 
-// Each of the four calls of a file that has an image does just what it says. What is found under a name has the right
-// kind.
+// Each call of a file that has an image does just what it says. What is found under a name has the right kind.
 #[test]
 fn a_file_of_the_system_keeps_its_promises(rt: HostRuntime) -> Result<(), Fail> {
     let name = "promises.img";
@@ -209,6 +208,7 @@ fn a_file_of_the_system_keeps_its_promises(rt: HostRuntime) -> Result<(), Fail> 
     file.read_bytes(512, &mut into)?;
     assert!(rt; run.get(512..1536) == Some(into.as_slice()));
     assert!(rt; file.read_bytes(2048, &mut into).is_err());
+    file.lock()?;
     file.write_bytes(1024, &[9; 1024])?;
     file.sync()?;
     let left = fs::read(&rt, name)?;

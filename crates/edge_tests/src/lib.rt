@@ -19,6 +19,8 @@ mod stores;
 #[cfg(test)]
 mod streams;
 #[cfg(test)]
+mod system_files;
+#[cfg(test)]
 mod told;
 
 pub use change::Change;

@@ -2,9 +2,9 @@
 ghost use Rattle.std.specs.Prelude.{◌≡◌, ◌++◌, None, Some, is_ok, string_bytes};
 ghost use Rattle.file_edge.specs.Asked.{asking};
 
-use file_edge::{Ask, FileId, FileKind, Found, KeptAsk, Opener, Stop, store_file};
+use file_edge::{Ask, FileId, FileKind, Found, KeptAsk, Opener, Stop, SystemFile, store_file};
 use std::alloc::{AllocError, Global};
-use std::fs::{File, OpenOptions};
+use std::fs::OpenOptions;
 use std::io::{self, ErrorKind};
 use std::process::Abort;
 use std::test::Fail;
@@ -76,7 +76,7 @@ impl<R: Abort + Drop> KeptFiles<R> {
 impl<R: Abort + Drop> Opener for KeptFiles<R> {
     ghost use Rattle.file_edge.specs.Kept.{kept_asks};
 
-    type File = File;
+    type File = SystemFile;
 
     ghost answers = { λ _ _ _ _. Unit {0} };
 
@@ -90,7 +90,7 @@ impl<R: Abort + Drop> Opener for KeptFiles<R> {
 
     ghost told = { λ _. None };
 
-    fn open(&mut self, how: &OpenOptions, name: &str) -> io::Result<File> {
+    fn open(&mut self, how: &OpenOptions, name: &str) -> io::Result<SystemFile> {
         let how = how.clone().expect(&self.rt, "memory");
         let ask = Ask::Open(how, self.text(name));
         self.keep(ask, false);

@@ -1,9 +1,11 @@
 //! Runs of words over files in memory that report what they hold.
+use crate::disk_file::DiskFile;
 use crate::mem_files::{Changes, MemFiles, counted, none_seen};
 use crate::mem_folder::MemFolder;
-use crate::seen_disk::Seen;
+use crate::seen_disk::{Seen, SeenDisk};
 use block_traits::{Disk, Event};
 use crash_disk::{CallKind, FailAt, MemSink, MemSource};
+use file_edge::FileDisk;
 use geli_core::Status;
 use image_layers::open_image;
 use image_run::run_files;
@@ -226,6 +228,36 @@ fn a_flush_of_a_layer_syncs_its_files(rt: HostRuntime) -> Result<(), Fail> {
         assert!(&rt; matches!(events.get(1), Some(Event::Flush)), "{name}");
         assert!(&rt; matches!(events.get(2), Some(Event::Flush)), "{name}");
     }
+    Ok(())
+}
+
+// Whether a disk says that room was wanting only once a write of it failed so, and says it still after a write that was
+// done.
+fn says_that_room_was_wanting(image: &mut FileDisk<DiskFile<SeenDisk>>) -> bool {
+    2 < image.sectors()
+        && image.write(1, &[9; 512]).is_ok()
+        && !image.wants_room()
+        && image.write(1, &[9; 512]).is_err()
+        && image.wants_room()
+        && image.write(1, &[9; 512]).is_ok()
+        && image.wants_room()
+}
+
+// The second write fails, as on a device that is full.
+#[test]
+fn a_full_device_is_told(rt: HostRuntime) -> Result<(), Fail> {
+    let alloc = rt.alloc();
+    let mut fails = Vec::new(alloc);
+    fails.push(FailAt {
+        kind: CallKind::Write,
+        nth: 2,
+        lands: false,
+    })?;
+    let changes: Changes = Rc::new(alloc, RefCell::new(Vec::new(alloc)))?;
+    let mut opener = MemFiles::new(rt.clone()?, alloc, fails, 1, none_seen(alloc)?, changes)?;
+    let mut image = FileDisk::open(&mut opener, &[], true, "a.img");
+    let says = says_that_room_was_wanting(&mut image);
+    assert!(rt; says);
     Ok(())
 }
 

@@ -6,8 +6,11 @@ use Rattle.std.specs.declared.io.Error.{Error}
 use Rattle.std.specs.declared.io.ErrorKind.{ErrorKind}
 use Rattle.std.specs.declared.io.ErrorKind.TheVariants as kinds
 use Rattle.block_traits.specs.Cabinet.{Answers, CabinetState, load_answer}
+use Rattle.block_traits.specs.Causes.{Counted}
 use Rattle.block_traits.specs.declared.cabinet.LoadFault.{LoadFault}
 use Rattle.block_traits.specs.declared.cabinet.LoadFault.TheVariants as load
+use Rattle.block_traits.specs.declared.cabinet.StoreFault.{StoreFault}
+use Rattle.block_traits.specs.declared.cabinet.StoreFault.TheVariants as store
 use Rattle.file_edge.specs.Asked.{Open, asking, more}
 use Rattle.file_edge.specs.Found.{IsOneOfImages}
 use Rattle.file_edge.specs.Names.{NamedFiles, OpensTold, told_files}
@@ -47,6 +50,28 @@ pub record ReadsWhole {F : Type 0} (f : image_file.Ghosts F) (file : F) (limit :
 abbrev pub LoadAnswers : Option (List ℕ) → ℕ → Result (List ℕ) LoadFault → Type 0
 LoadAnswers known limit (Err load.Absent) = ⊥
 LoadAnswers known limit result = IfSome known (λ bytes. Answers (load_answer (Some bytes) limit) result)
+
+-- how many faults and misses are counted, before and after a call
+pub record Counts : Type 0 where
+  pub faults : ℕ
+  pub misses : ℕ
+
+abbrev pub counts : ℕ → ℕ → Counts
+counts faults misses = record { faults = faults; misses = misses }
+
+-- a failed load is one fault, and a file that is absent or too long is one miss; nothing else is counted
+abbrev pub CountsLoad : {T : Type 0} → Result T LoadFault → Counts → Counts → Type 0
+CountsLoad (Ok done) old new = new ≡ old
+CountsLoad (Err load.NoMemory) old new = new ≡ old
+CountsLoad (Err load.Failed) old new = Counted 1 old.faults new.faults × (new.misses ≡ old.misses)
+CountsLoad (Err load.Absent) old new = Counted 1 old.misses new.misses × (new.faults ≡ old.faults)
+CountsLoad (Err load.TooLong) old new = Counted 1 old.misses new.misses × (new.faults ≡ old.faults)
+
+-- a failed store is one fault; nothing else is counted
+abbrev pub CountsStore : {T : Type 0} → Result T StoreFault → Counts → Counts → Type 0
+CountsStore (Ok done) old new = new ≡ old
+CountsStore (Err store.NoMemory) old new = new ≡ old
+CountsStore (Err store.Failed) old new = Counted 1 old.faults new.faults × (new.misses ≡ old.misses)
 
 module _ {O F : Type 0} (o : opener.Ghosts O F) (f : image_file.Ghosts F) (images : List FileId) where
   -- an image isn't read; another file is, and what was read is returned

@@ -1,5 +1,5 @@
 -- A file as a disk.
-use Rattle.std.specs.Prelude.{◌≡◌, ◌≤◌, ◌<◌, ◌^◌, ◌/◌, ℕ, List, ◌++◌, Bool, true, false, Option, None, Some, Result, Ok, Err, MatchBool}
+use Rattle.std.specs.Prelude.{◌≡◌, ◌<◌, ◌^◌, ◌/◌, ℕ, List, ◌++◌, Bool, true, false, Option, None, Some, Result, Ok, Err}
 use Rattle.std.specs.declared.io.Error.{Error}
 use Rattle.block_traits.specs.Disk.{DiskState}
 use Rattle.file_edge.specs.Asked.{Asked, Find, asking, more}
@@ -8,8 +8,9 @@ use Rattle.file_edge.specs.Found.{IsFree}
 use Rattle.file_edge.specs.declared.found.FileId.{FileId}
 use Rattle.file_edge.specs.declared.found.Found.{Found}
 use Rattle.file_edge.specs.declared.image_file.ImageFile as image_file
+use Rattle.file_edge.specs.declared.measuring.Measured.{Measured}
 use Rattle.file_edge.specs.declared.opener.Opener as opener
-use Rattle.file_edge.specs.ImageFile.{IsLocked}
+use Rattle.file_edge.specs.Measuring.{IsMeasured}
 use Rattle.file_edge.specs.Opening.{OpensImage, image_asked}
 use Rattle.file_edge.specs.Told.{Told, contents, of_size, told_in}
 use Rattle.file_edge.specs.ToldFits.{IsWellFormed-told}
@@ -41,39 +42,18 @@ pub record Holds {F : Type 0} (file : F) (id : FileId) (size : ℕ) (disk : File
   pub sectors : disk.sectors ≡ size / 512
   pub is_file : disk.id ≡ Some id
 
--- the disk of an open file of this size in bytes
-pub record IsDiskOf {F : Type 0} (file : F) (id : FileId) (size : ℕ) (disk : FileDisk F) : Type 0 where
-  pub small : size < 2 ^ 53 → Holds file id size disk
-  pub large : 2 ^ 53 ≤ size → IsUnopened (Some id) disk
-
--- the disk of an open file whose end is there; if the end isn't found, the disk of no file
-abbrev pub IsDiskTo : {F : Type 0} → F → FileId → Option ℕ → FileDisk F → Type 0
-IsDiskTo file id None disk = IsUnopened (Some id) disk
-IsDiskTo file id (Some size) disk = IsDiskOf file id size disk
-
--- the disk of an open file, by the end that was found
-pub record IsDiskOfEnd {F : Type 0} (f : image_file.Ghosts F) (file : F) (id : FileId) (disk : FileDisk F) : Type 0 where
-  pub end : Option ℕ
-  pub found : f.ends file end
-  pub holds : IsDiskTo file id end disk
-
--- the disk of an open file that may be an image; if it can't be locked, the disk of no file
-pub record IsDiskHeld {F : Type 0} (f : image_file.Ghosts F) (changes : Bool) (file : F) (id : FileId) (disk : FileDisk F) : Type 0 where
-  pub held : Bool
-  pub locked : IsLocked f.locks changes file held
-  pub holds : MatchBool held (IsDiskOfEnd f file id disk) (IsUnopened (Some id) disk)
+-- the disk of an open file that was looked at, by its size in bytes; if it isn't served, the disk of no file
+abbrev pub IsDiskOf : {F : Type 0} → F → FileId → Option ℕ → FileDisk F → Type 0
+IsDiskOf file id None disk = IsUnopened (Some id) disk
+IsDiskOf file id (Some size) disk = Holds file id size disk
 
 module _ {F : Type 0} (f : image_file.Ghosts F) (images : List FileId) (changes : Bool) where
-  -- the disk of an open file, by what was found under its name and of itself
-  abbrev pub IsDiskFound : F → FileId → Result Found Error → FileDisk F → Type 0
-  IsDiskFound file id (Err error) disk = IsUnopened (Some id) disk
-  IsDiskFound file id (Ok found) disk = (IsFree images found → IsDiskHeld f changes file found.id disk) × ((IsFree images found → ⊥) → IsUnopened (Some found.id) disk)
-
-  -- the disk of an open file
+  -- the disk of an open file, as looking at it left that file
   pub record IsDiskOfFile (file : F) (id : FileId) (disk : FileDisk F) : Type 0 where
-    pub found : Result Found Error
-    pub told : f.tells file found
-    pub holds : IsDiskFound file id found disk
+    pub seen : Measured
+    pub ready : F
+    pub looks : IsMeasured f images changes file id seen ready
+    pub holds : IsDiskOf ready seen.id seen.length disk
 
   -- the disk of what was opened
   abbrev pub IsDiskOfOpened : FileId → Result F Error → FileDisk F → Type 0

@@ -1,4 +1,4 @@
--- What a read of a file returns, how it is held, which calls are made of it, and how failures are counted.
+-- What a read of a file returns, which calls are made of it, and how failures are counted.
 use Rattle.std.specs.Prelude.{◌≡◌, List, [], ◌∷◌, ℕ, Bool, true, false, Option, None, Some, Result, Ok, Err}
 use Rattle.block_traits.specs.Causes.{Counted}
 use Rattle.file_edge.specs.Asked.{more}
@@ -13,19 +13,15 @@ abbrev pub looked : Bool → List ℕ → Option (List ℕ)
 looked true bytes = Some bytes
 looked false bytes = None
 
--- a file that is to be changed is locked
-abbrev pub IsLocked : {F : Type 0} → (F → Bool → Type 0) → Bool → F → Bool → Type 0
-IsLocked locks false file held = held ≡ true
-IsLocked locks true file held = locks file held
-
 -- a call that fails is one fault more, or as many as can be counted; any other is none
 abbrev pub CountsFault : {T E : Type 0} → Result T E → ℕ → ℕ → Type 0
 CountsFault (Ok done) before now = now ≡ before
 CountsFault (Err error) before now = Counted 1 before now
 
--- one call of a file: so many bytes are read at a byte offset (pread(2)), bytes are written at one (pwrite(2)), what
--- was written is brought to the disk (fdatasync(2))
+-- one call of a file: it is locked (flock(2)), so many bytes are read at a byte offset (pread(2)), bytes are written at
+-- one (pwrite(2)), what was written is brought to the disk (fdatasync(2))
 pub data Call : Type 0 where
+  Lock : Call
   ReadAt : (at count : ℕ) → Call
   WriteAt : (at : ℕ) → (bytes : List ℕ) → Call
   SyncData : Call

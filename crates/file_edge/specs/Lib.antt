@@ -5,6 +5,7 @@ pub mod Folder
 pub mod Found
 pub mod ImageFile
 pub mod Kept
+pub mod Measuring
 pub mod Names
 pub mod Opening
 pub mod RandomFile

@@ -3,7 +3,7 @@ ghost use Rattle.std.specs.Prelude.{◌≡◌, ◌≤◌, IfOk, IsErrOf, OnErr, 
 ghost use Rattle.std.specs.IoError.{error_kind};
 ghost use Rattle.block_traits.specs.Cabinet.{LoadGives, stored};
 ghost use Rattle.block_traits.specs.Causes.{Counted, Rose};
-ghost use Rattle.file_edge.specs.FileCabinet.{LoadsNamed, LoadAnswers, ReadsWhole, fault_of, read_fault};
+ghost use Rattle.file_edge.specs.FileCabinet.{CountsLoad, CountsStore, LoadsNamed, LoadAnswers, ReadsWhole, counts, fault_of, read_fault};
 ghost use Rattle.file_edge.specs.Names.{told_files};
 ghost use Rattle.file_edge.specs.Storing.{StoresNamedFile};
 
@@ -83,6 +83,8 @@ impl<O: Opener + Drop> Cabinet for FileCabinet<O> {
         ensures too_long { IsErrOf result LoadFault.TooLong → Rose self.old.misses self.new.misses }
         ensures asked { Counted 1 self.old.loads self.new.loads }
         ensures unstored { self.new.stores ≡ self.old.stores }
+        ensures counts { CountsLoad result
+            (counts self.old.faults self.old.misses) (counts self.new.faults self.new.misses) }
     {
         self.loads = self.loads.saturating_add(1);
         let loaded = load_file(&mut self.opener, alloc, self.images.as_slice(), name, limit);
@@ -111,6 +113,8 @@ impl<O: Opener + Drop> Cabinet for FileCabinet<O> {
         ensures more_misses { self.old.misses ≤ self.new.misses }
         ensures unasked { self.new.loads ≡ self.old.loads }
         ensures stored { Counted 1 self.old.stores self.new.stores }
+        ensures counts { CountsStore result
+            (counts self.old.faults self.old.misses) (counts self.new.faults self.new.misses) }
     {
         self.stores = self.stores.saturating_add(1);
         match store_file(&mut self.opener, alloc, self.images.as_slice(), name, bytes) {

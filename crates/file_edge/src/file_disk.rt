@@ -6,26 +6,29 @@
 //!
 //! Callers may rely on each call being at most one read, write or sync of the file. A read, write or flush that fails
 //! is counted once in `faults`, and nothing else is. A write asks for the file's end first, so a file that became
-//! shorter isn't made longer. What a failed write leaves isn't known: it may end within a sector.
+//! shorter isn't made longer. What a failed write leaves isn't known: it may end within a sector. Whether room was
+//! wanting at the last write that failed is kept (`no_room`).
 //!
 //! After a failed sync every flush fails, and the file isn't asked again (`unsynced`). The system may have dropped
 //! what it couldn't write, and a second sync could succeed without it.
 //!
 //! A file that is to be changed is locked before it is read, written or synced, so that two runs don't change one
-//! image.
+//! image. A file that isn't locked is never written.
 ghost use Rattle.std.specs.Prelude.{◌≡◌, ◌<◌, ◌≤◌, ◌^◌, ◌+◌, ◌*◌, ◌/◌, ◌%◌, ◌∷◌, [], IsErr, IsNone, MatchOption, OnErr, OnOk, false, is_err, is_ok, length, true};
 ghost use Rattle.block_traits.specs.Causes.{Counted};
 ghost use Rattle.block_traits.specs.Disk.{FailsIn, Gives, GivesEach, Logs, write_events};
-ghost use Rattle.file_edge.specs.ImageFile.{AsksFile, CountsFault, IsLocked, IsUncalled, LeavesFile};
+ghost use Rattle.file_edge.specs.ImageFile.{AsksFile, CountsFault, IsUncalled, LeavesFile};
 ghost use Rattle.file_edge.specs.ImageFile.{ReadAt, SyncData, looked, read_bytes};
 ghost use Rattle.file_edge.specs.Opening.{AsksImage};
 ghost use Rattle.file_edge.specs.Told.{EndsTold, Leaves, ReadsTold, contents, told_in};
-ghost use Rattle.file_edge.specs.Writing.{WritesFile, WritesWithin};
+ghost use Rattle.file_edge.specs.Writing.{WritesFile, written_as};
 
 use crate::found::{FileId, is_free};
 use crate::image_file::ImageFile;
+use crate::measuring::measure;
 use crate::opener::Opener;
 use crate::opening::open_image;
+use crate::writing::write_open;
 use block_traits::{Disk, DiskFailed, Event, Sector};
 
 /// A disk of the whole 512-byte pieces of a file, read and written in place. It reports what its file reports, shows no
@@ -38,12 +41,12 @@ pub struct FileDisk<F: Drop> {
     faults: u64,
     reads: u64,
     unsynced: bool,
+    no_room: bool,
     ghost small: { sectors < 2 ^ 44 },
 }
 
 impl<F: Drop> FileDisk<F> {
-    ghost use Rattle.file_edge.specs.FileDisk.{AsksDisk, IsDiskHeld, IsDiskOf, IsDiskOfEnd, IsDiskOfFile};
-    ghost use Rattle.file_edge.specs.FileDisk.{IsUnopened, OpensDisk, OpensFile, TellsFile};
+    ghost use Rattle.file_edge.specs.FileDisk.{AsksDisk, Holds, IsDiskOfFile, IsUnopened, OpensDisk, OpensFile, TellsFile};
 
     /// The disk of a file. A file that can't be opened gives a disk of two sectors whose every call fails. So does one
     /// that is neither a regular file nor a block device, is one of these images, or has 2^53 bytes or more. So does
@@ -63,6 +66,7 @@ impl<F: Drop> FileDisk<F> {
         ensures faults { result.faults ≡ 0 }
         ensures reads { result.reads ≡ 0 }
         ensures unsynced { result.unsynced ≡ false }
+        ensures room { result.no_room ≡ false }
         ensures tells { TellsFile F.told result }
         ensures unopened { IsNone result.file → result.sectors ≡ 2 }
     {
@@ -92,6 +96,7 @@ impl<F: Drop> FileDisk<F> {
         ensures faults { result.faults ≡ 0 }
         ensures reads { result.reads ≡ 0 }
         ensures unsynced { result.unsynced ≡ false }
+        ensures room { result.no_room ≡ false }
         ensures tells { TellsFile F.told result }
         ensures unopened { IsNone result.file → result.sectors ≡ 2 }
     {
@@ -101,61 +106,25 @@ impl<F: Drop> FileDisk<F> {
         }
     }
 
-    // The disk of an open file, whose name led to the file `id`.
+    // The disk of an open file, whose name led to the file `id`. One that isn't served is let go as it is.
     fn of_opened(file: F, images: &[FileId], changes: bool, id: FileId) -> FileDisk<F>
     where
         F: ImageFile,
         requires uncalled { IsUncalled (F.calls file) }
+        requires free { F.held file ≡ false }
         ensures disk { IsDiskOfFile (⟦<F as ImageFile>⟧) images.now changes file id result }
         ensures faults { result.faults ≡ 0 }
         ensures reads { result.reads ≡ 0 }
         ensures unsynced { result.unsynced ≡ false }
+        ensures room { result.no_room ≡ false }
         ensures tells { TellsFile F.told result }
         ensures unopened { IsNone result.file → result.sectors ≡ 2 }
     {
-        match file.found() {
-            Ok(found) => {
-                if !is_free(images, &found) {
-                    return FileDisk::unopened(Some(found.id));
-                }
-                FileDisk::of_free(file, found.id, changes)
-            }
-            Err(_) => FileDisk::unopened(Some(id)),
-        }
-    }
-
-    // The disk of a file that may be an image.
-    fn of_free(file: F, id: FileId, changes: bool) -> FileDisk<F>
-    where
-        F: ImageFile,
-        requires uncalled { IsUncalled (F.calls file) }
-        ensures disk { IsDiskHeld (⟦<F as ImageFile>⟧) changes file id result }
-        ensures faults { result.faults ≡ 0 }
-        ensures reads { result.reads ≡ 0 }
-        ensures unsynced { result.unsynced ≡ false }
-        ensures tells { TellsFile F.told result }
-        ensures unopened { IsNone result.file → result.sectors ≡ 2 }
-    {
-        if !is_held(&file, changes) {
-            return FileDisk::unopened(Some(id));
-        }
-        FileDisk::of_end(file, id)
-    }
-
-    // The disk of a file that is held.
-    fn of_end(file: F, id: FileId) -> FileDisk<F>
-    where
-        F: ImageFile,
-        ensures disk { IsDiskOfEnd (⟦<F as ImageFile>⟧) file id result }
-        ensures faults { result.faults ≡ 0 }
-        ensures reads { result.reads ≡ 0 }
-        ensures unsynced { result.unsynced ≡ false }
-        ensures tells { TellsFile F.told result }
-        ensures unopened { IsNone result.file → result.sectors ≡ 2 }
-    {
-        match file.end() {
-            Ok(length) => FileDisk::of_file(file, id, length),
-            Err(_) => FileDisk::unopened(Some(id)),
+        let mut file = file;
+        let seen = measure(&mut file, images, changes, id);
+        match seen.length {
+            Some(length) => FileDisk::of_file(file, seen.id, length),
+            None => FileDisk::unopened(Some(seen.id)),
         }
     }
 
@@ -163,16 +132,14 @@ impl<F: Drop> FileDisk<F> {
     pub fn of_file(file: F, id: FileId, length: u64) -> FileDisk<F>
     where
         F: ImageFile,
-        ensures disk { IsDiskOf file id length result }
+        requires { length < 2 ^ 53 }
+        ensures disk { Holds file id length result }
         ensures tells { EndsTold (F.told file) length → TellsFile F.told result }
         ensures faults { result.faults ≡ 0 }
         ensures reads { result.reads ≡ 0 }
         ensures unsynced { result.unsynced ≡ false }
-        ensures unopened { IsNone result.file → result.sectors ≡ 2 }
+        ensures room { result.no_room ≡ false }
     {
-        if length >= 1 << 53 {
-            return FileDisk::unopened(Some(id));
-        }
         FileDisk {
             file: Some(file),
             id: Some(id),
@@ -180,6 +147,7 @@ impl<F: Drop> FileDisk<F> {
             faults: 0,
             reads: 0,
             unsynced: false,
+            no_room: false,
         }
     }
 
@@ -189,6 +157,7 @@ impl<F: Drop> FileDisk<F> {
         ensures faults { result.faults ≡ 0 }
         ensures reads { result.reads ≡ 0 }
         ensures unsynced { result.unsynced ≡ false }
+        ensures room { result.no_room ≡ false }
     {
         FileDisk {
             file: None,
@@ -197,6 +166,7 @@ impl<F: Drop> FileDisk<F> {
             faults: 0,
             reads: 0,
             unsynced: false,
+            no_room: false,
         }
     }
 
@@ -215,21 +185,11 @@ impl<F: Drop> FileDisk<F> {
         ensures one { Counted 1 self.old.faults self.new.faults }
         ensures reads { self.new.reads ≡ self.old.reads }
         ensures unsynced { self.new.unsynced ≡ self.old.unsynced }
+        ensures room { self.new.no_room ≡ self.old.no_room }
     {
         self.faults = self.faults.saturating_add(1);
         DiskFailed
     }
-}
-
-// Whether a file may be used: one that is to be changed is locked first.
-fn is_held<F: ImageFile>(file: &F, changes: bool) -> bool
-    requires uncalled { IsUncalled (F.calls file.now) }
-    ensures { IsLocked F.locks changes file.now result }
-{
-    if changes {
-        return file.lock().is_ok();
-    }
-    true
 }
 
 // Reads whole sectors at a byte offset of a file by one call, if a file is open.
@@ -246,45 +206,6 @@ fn read_open<F: ImageFile>(file: &mut Option<F>, at: u64, into: &mut [u8]) -> Re
             Ok(()) => Ok(()),
             Err(_) => Err(DiskFailed),
         },
-        None => Err(DiskFailed),
-    }
-}
-
-// Writes whole sectors by one call, if the file still reaches so far: it may have become shorter, and isn't made
-// longer.
-#[tactic(auto, using(crate::proofs::Left::leaves_nothing))]
-fn write_within<F: ImageFile>(file: &mut F, at: u64, from: &[u8]) -> bool
-    requires fits { at + length from.now ≤ 2 ^ 53 }
-    requires at { at % 512 ≡ 0 }
-    requires whole { length from.now % 512 ≡ 0 }
-    ensures placed { WritesWithin (⟦<F as ImageFile>⟧) at from.now result file.old file.new }
-    ensures told { Leaves (write_events (at / 512) from.now) (at / 512 + length from.now / 512) result
-        (contents (F.told file.old)) (contents (F.told file.new)) }
-{
-    match file.end() {
-        Ok(end) => at + from.len() as u64 <= end && file.write_bytes(at, from).is_ok(),
-        Err(_) => false,
-    }
-}
-
-// Writes whole sectors by one call, if a file is open and still reaches so far.
-#[tactic(auto, using(crate::proofs::Left::leaves_nothing))]
-fn write_open<F: ImageFile>(file: &mut Option<F>, at: u64, from: &[u8]) -> Result<(), DiskFailed>
-    requires fits { at + length from.now ≤ 2 ^ 53 }
-    requires at { at % 512 ≡ 0 }
-    requires whole { length from.now % 512 ≡ 0 }
-    ensures placed { WritesFile (⟦<F as ImageFile>⟧) at from.now (is_ok result) file.old file.new }
-    ensures told { Leaves (write_events (at / 512) from.now) (at / 512 + length from.now / 512) (is_ok result)
-        (contents (told_in F.told file.old)) (contents (told_in F.told file.new)) }
-{
-    match file {
-        Some(file) => {
-            if write_within(file, at, from) {
-                Ok(())
-            } else {
-                Err(DiskFailed)
-            }
-        }
         None => Err(DiskFailed),
     }
 }
@@ -312,6 +233,8 @@ impl<F: ImageFile + Drop> Disk for FileDisk<F> {
 
     ghost state = { file_disk_state F.told };
 
+    ghost wants_room = { λ d. d.no_room };
+
     fn sectors(&self) -> u64 {
         self.sectors
     }
@@ -327,6 +250,7 @@ impl<F: ImageFile + Drop> Disk for FileDisk<F> {
             (λ file. F.reads file (512 * n) (read_bytes result into.new)) }
         ensures asks { AsksFile F.calls (ReadAt (512 * n) 512) self.old.file self.new.file }
         ensures unsynced { self.new.unsynced ≡ self.old.unsynced }
+        ensures room { self.new.no_room ≡ self.old.no_room }
     {
         self.reads = self.reads.saturating_add(1);
         match read_open(&mut self.file, 512 * n, into) {
@@ -345,6 +269,7 @@ impl<F: ImageFile + Drop> Disk for FileDisk<F> {
             (λ file. F.reads file (512 * first) (looked result into.new)) }
         ensures asks { AsksFile F.calls (ReadAt (512 * first) (length into.old)) self.old.file self.new.file }
         ensures unsynced { self.new.unsynced ≡ self.old.unsynced }
+        ensures room { self.new.no_room ≡ self.old.no_room }
     {
         match read_open(&mut self.file, 512 * first, into) {
             Ok(()) => true,
@@ -358,6 +283,7 @@ impl<F: ImageFile + Drop> Disk for FileDisk<F> {
         ensures file { self.new.file ≡ self.old.file }
         ensures faults { self.new.faults ≡ self.old.faults }
         ensures unsynced { self.new.unsynced ≡ self.old.unsynced }
+        ensures room { self.new.no_room ≡ self.old.no_room }
     {
         self.reads = self.reads.saturating_add(many);
     }
@@ -371,12 +297,17 @@ impl<F: ImageFile + Drop> Disk for FileDisk<F> {
             (file_disk_state F.told self.old) (file_disk_state F.told self.new)) }
         ensures faults { CountsFault result self.old.faults self.new.faults }
         ensures unasked { self.new.reads ≡ self.old.reads }
-        ensures placed { WritesFile (⟦<F as ImageFile>⟧) (512 * n) from.now (is_ok result) self.old.file self.new.file }
+        ensures placed { WritesFile (⟦<F as ImageFile>⟧) (512 * n) from.now (written_as result self.new.no_room)
+            self.old.file self.new.file }
         ensures unsynced { self.new.unsynced ≡ self.old.unsynced }
+        ensures room { OnOk result (self.new.no_room ≡ self.old.no_room) }
     {
         match write_open(&mut self.file, 512 * n, from) {
             Ok(()) => Ok(()),
-            Err(_) => Err(self.fail()),
+            Err(why) => {
+                self.no_room = why.is_for_room();
+                Err(self.fail())
+            }
         }
     }
 
@@ -391,13 +322,17 @@ impl<F: ImageFile + Drop> Disk for FileDisk<F> {
             (file_disk_state F.told self.old) (file_disk_state F.told self.new)) }
         ensures faults { CountsFault result self.old.faults self.new.faults }
         ensures unasked { self.new.reads ≡ self.old.reads }
-        ensures placed { WritesFile (⟦<F as ImageFile>⟧) (512 * first) from.now (is_ok result)
+        ensures placed { WritesFile (⟦<F as ImageFile>⟧) (512 * first) from.now (written_as result self.new.no_room)
             self.old.file self.new.file }
         ensures unsynced { self.new.unsynced ≡ self.old.unsynced }
+        ensures room { OnOk result (self.new.no_room ≡ self.old.no_room) }
     {
         match write_open(&mut self.file, 512 * first, from) {
             Ok(()) => Ok(()),
-            Err(_) => Err(self.fail()),
+            Err(why) => {
+                self.no_room = why.is_for_room();
+                Err(self.fail())
+            }
         }
     }
 
@@ -416,6 +351,7 @@ impl<F: ImageFile + Drop> Disk for FileDisk<F> {
         ensures unsynced { self.new.unsynced ≡ is_err result }
         ensures asks { self.old.unsynced ≡ false → AsksFile F.calls SyncData self.old.file self.new.file }
         ensures kept { self.old.unsynced ≡ true → LeavesFile F.calls self.old.file self.new.file }
+        ensures room { self.new.no_room ≡ self.old.no_room }
     {
         if self.unsynced {
             return Err(self.fail());
@@ -434,6 +370,6 @@ impl<F: ImageFile + Drop> Disk for FileDisk<F> {
     }
 
     fn wants_room(&self) -> bool {
-        false
+        self.no_room
     }
 }

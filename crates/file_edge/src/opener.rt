@@ -1,5 +1,5 @@
 //! The files of the system, by their names.
-ghost use Rattle.std.specs.Prelude.{◌≡◌, ◌<ℤ◌, ℕ, IfOk, List, None, Option, Result, is_ok, option_map, pos, true};
+ghost use Rattle.std.specs.Prelude.{◌≡◌, ◌<ℤ◌, ℕ, IfOk, List, None, Option, Result, false, is_ok, option_map, pos, true};
 ghost use Rattle.std.specs.Fd.{file_raw_fd};
 ghost use Rattle.std.specs.declared.fs.options.OpenOptions.{OpenOptions};
 ghost use Rattle.std.specs.declared.io.Error.{Error};
@@ -13,6 +13,7 @@ ghost use Rattle.file_edge.specs.declared.found.Found.{Found};
 
 use crate::found::{FileId, FileKind, Found};
 use crate::image_file::ImageFile;
+use crate::system_file::SystemFile;
 use std::fs::{self, File, Metadata, OpenOptions};
 use std::io::{self, ErrorKind, Write};
 use std::os::fd::AsRawFd;
@@ -47,10 +48,11 @@ pub trait Opener {
     /// What its names have, and which of them the new file has, if that is reported.
     ghost told: { Self → Option NamedFiles };
 
-    /// Opens the file of this name. Nothing was asked of it yet.
+    /// Opens the file of this name. Nothing was asked of it yet, and it isn't held.
     fn open(&mut self, how: &OpenOptions, name: &str) -> io::Result<Self::File>
         ensures answers { answers self.old how.now name.now result }
         ensures uncalled { IfOk result (λ file. IsUncalled (Self.File.calls file)) }
+        ensures free { IfOk result (λ file. Self.File.held file ≡ false) }
         ensures opened { how.now ≡ to_read → OpensTold (⟦<Self::File as ImageFile>⟧) (told self.old) name.now result }
         ensures told { IsUsual how.now → told self.new ≡ told self.old }
         ensures asked { asked self.new ≡ more (asking (Open how.now name.now) (is_ok result)) (asked self.old) }
@@ -123,7 +125,7 @@ impl<R: Files<File = File> + Drop> SystemFiles<R> {
 }
 
 impl<R: Files<File = File> + Drop> Opener for SystemFiles<R> {
-    type File = File;
+    type File = SystemFile;
 
     ghost answers = { λ _ _ _ _. Unit {0} };
 
@@ -138,15 +140,18 @@ impl<R: Files<File = File> + Drop> Opener for SystemFiles<R> {
     ghost told = { λ _. None };
 
     /// Besides what an opener does: no file that it opens is a standard stream.
-    fn open(&mut self, how: &OpenOptions, name: &str) -> io::Result<File>
-        ensures beside { IfOk result (λ file. pos 2 <ℤ file_raw_fd file) }
+    fn open(&mut self, how: &OpenOptions, name: &str) -> io::Result<SystemFile>
+        ensures beside { IfOk result (λ file. pos 2 <ℤ file_raw_fd file.file) }
+        ensures free { IfOk result (λ file. file.held ≡ false) }
         ensures cause { HasCause self.old.refusals self.new.refusals result }
     {
-        let opened = beside_streams(how.open(&self.rt, name));
-        if opened.is_err() {
-            self.refusals = self.refusals.saturating_add(1);
+        match beside_streams(how.open(&self.rt, name)) {
+            Ok(file) => Ok(SystemFile::new(file)),
+            Err(error) => {
+                self.refusals = self.refusals.saturating_add(1);
+                Err(error)
+            }
         }
-        opened
     }
 
     fn find(&mut self, name: &str) -> io::Result<Found> {

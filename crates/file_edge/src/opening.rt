@@ -1,5 +1,5 @@
 //! How an image is opened.
-ghost use Rattle.std.specs.Prelude.{◌≡◌, IfOk, true};
+ghost use Rattle.std.specs.Prelude.{◌≡◌, IfOk, false, true};
 ghost use Rattle.file_edge.specs.ImageFile.{IsUncalled};
 ghost use Rattle.file_edge.specs.Opening.{AsksImage, OpensImage};
 
@@ -15,6 +15,7 @@ pub(crate) fn open_image<O: Opener>(
 ) -> io::Result<O::File>
     ensures opens { OpensImage O.answers opener.old changes name.now result }
     ensures uncalled { IfOk result (λ file. IsUncalled (O.File.calls file)) }
+    ensures free { IfOk result (λ file. O.File.held file ≡ false) }
     ensures told { O.told opener.new ≡ O.told opener.old }
     ensures asked { AsksImage O.asked opener.old changes name.now opener.new }
 {
@@ -27,6 +28,7 @@ pub(crate) fn open_image<O: Opener>(
 fn open_to_change<O: Opener>(opener: &mut O, name: &str) -> io::Result<O::File>
     ensures opens { OpensImage O.answers opener.old true name.now result }
     ensures uncalled { IfOk result (λ file. IsUncalled (O.File.calls file)) }
+    ensures free { IfOk result (λ file. O.File.held file ≡ false) }
     ensures told { O.told opener.new ≡ O.told opener.old }
     ensures asked { AsksImage O.asked opener.old true name.now opener.new }
 {

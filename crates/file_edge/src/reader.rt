@@ -33,7 +33,7 @@ pub trait Writer: Write + Drop {
     /// Whether one write of these bytes may take so many, and what the writer then is.
     ghost takes: { List ℕ → Self → Result ℕ Error → Self → Type 0 };
 
-    /// One write.
+    /// One write. The bytes that it takes are out when it returns: no buffer keeps them for later.
     fn write_once(&mut self, from: &[u8]) -> io::Result<usize>
         ensures takes { takes from.now self.old result self.new }
         ensures bound { IfOk result (λ k. k ≤ length from.now) }
@@ -44,7 +44,11 @@ pub trait Writer: Write + Drop {
 impl<W: Write + Drop> Writer for W {
     ghost takes = { λ _ _ _ _. Unit {0} };
 
+    // A flush that fails is reported by the one before the next write. A file or a stream has nothing to flush.
     fn write_once(&mut self, from: &[u8]) -> io::Result<usize> {
-        self.write(from)
+        self.flush()?;
+        let taken = self.write(from)?;
+        let _ = self.flush();
+        Ok(taken)
     }
 }

@@ -1,5 +1,5 @@
 -- What each call of the disk of an image does, by the disk that it is.
-use Rattle.std.specs.Prelude.{◌≡◌, ◌*◌, ◌/◌, ℕ, List, [], length, Bool, true, false, Result, IsErr, MatchOption, is_err, is_ok}
+use Rattle.std.specs.Prelude.{◌≡◌, ◌*◌, ◌/◌, ℕ, List, [], length, Bool, true, false, Result, IsErr, MatchOption, OnOk, is_err, is_ok}
 use Rattle.block_traits.specs.Causes.{Counted}
 use Rattle.block_traits.specs.Disk.{Logs, write_events}
 use Rattle.block_traits.specs.EachWritten.{EachWritten}
@@ -10,7 +10,7 @@ use Rattle.disk_layers.specs.Concat.{AsksOne, BothDo, FlushesBoth, WritesOne}
 use Rattle.disk_layers.specs.Waiting.{last_waiting}
 use Rattle.disk_layers.specs.WriteBehind.{BehindReadAnswers, BehindWritesSector, FlushAnswers, behind_of}
 use Rattle.file_edge.specs.ImageFile.{AsksFile, CountsFault, LeavesFile, ReadAt, SyncData, looked, read_bytes}
-use Rattle.file_edge.specs.Writing.{WritesFile}
+use Rattle.file_edge.specs.Writing.{WritesFile, written_as}
 use Rattle.file_edge.specs.declared.file_disk.FileDisk.{FileDisk}
 use Rattle.file_edge.specs.declared.image_file.ImageFile as file
 use Rattle.image_layers.specs.declared.image_disks.ImageDisk.{ImageDisk}
@@ -32,9 +32,11 @@ module _ {F : Type 0} (f : file.Ghosts F) where
     pub asks : AsksFile f.calls (ReadAt (512 * n) count) old.file new.file
     pub unsynced : new.unsynced ≡ old.unsynced
 
-  -- bytes are written from sector n on by one write of the file, if it reaches so far
+  -- bytes are written from sector n on by one write of the file, if it is held and reaches so far; whether room was
+  -- wanting is known of the last write that failed
   pub record WritesInFile (n : ℕ) (bytes : List ℕ) (old new : FileDisk F) (result : Result (Unit {0}) DiskFailed) : Type 0 where
-    pub placed : WritesFile f (512 * n) bytes (is_ok result) old.file new.file
+    pub placed : WritesFile f (512 * n) bytes (written_as result new.no_room) old.file new.file
+    pub room : OnOk result (new.no_room ≡ old.no_room)
     pub faults : CountsFault result old.faults new.faults
     pub unsynced : new.unsynced ≡ old.unsynced
 

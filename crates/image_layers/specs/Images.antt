@@ -54,6 +54,12 @@ module _ {F : Type 0} {g : Ghosts (FileDisk F)} where
   image_disk_state (Behind behind) = write_behind.behind_disk_of g.state behind
   image_disk_state (Join both) = concat.concat_disk_of both
 
+  -- whether room was wanting at the last failed write of the disk of a file alone; a layer doesn't say
+  abbrev pub image_wants_room : ImageDisk F g → Bool
+  image_wants_room (Plain disk) = g.wants_room disk
+  image_wants_room (Behind behind) = false
+  image_wants_room (Join both) = false
+
   -- a disk for which 256 writes may wait, and none does; no call below was refused
   abbrev pub WaitsFor : FileDisk F → ImageDisk F g → Type 0
   WaitsFor disk (Behind behind) = (behind.under ≡ disk) × (length behind.waiting.items ≡ 0) × (behind.room ≡ 256) × (behind.clean ≡ true)

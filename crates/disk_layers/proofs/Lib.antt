@@ -3,3 +3,8 @@ pub mod WaitingLemmas
 pub mod ConcatLemmas
 pub mod Cuts
 pub mod Runs
+pub mod Covered
+pub mod BehindLemmas
+pub mod Failing
+pub mod JoinedLemmas
+pub mod Walks

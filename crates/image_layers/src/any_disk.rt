@@ -48,7 +48,7 @@ impl<F: ImageFile + Drop> Disk for ImageDisk<F> {
     {
         match self {
             ImageDisk::Plain(disk) => disk.peek(first, into),
-            // A layer reports no content, and lets nothing be looked at.
+            // A layer lets nothing be looked at.
             ImageDisk::Behind(_) | ImageDisk::Join(_) => false,
         }
     }

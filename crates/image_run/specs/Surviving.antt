@@ -10,21 +10,23 @@ use Rattle.geli_core.specs.Survivors.{EnduresCrashes}
 use Rattle.geli_core.specs.Trace.{EachLine, ServedLine}
 use Rattle.geli_core.specs.Vocabulary.{Sep}
 use Rattle.run_status.specs.declared.status.Status.{Status}
-use Rattle.image_layers.specs.Images.{IfFileTells, TellsImage, image_disk_state}
+use Rattle.image_layers.specs.Images.{IfFilesTell, TellsImage, image_disk_state}
+use Rattle.image_layers.specs.InFiles.{AreCovered}
 use Rattle.image_layers.specs.declared.image_disks.ImageDisk.{ImageDisk}
 use Rattle.readings.specs.Steps.{Step, after}
 
 module _ {F : Type 0} {g : Ghosts (FileDisk F)} (told : F → Option Told) where
   -- The drawer is that of one of these images, by its name, and did these steps. If the disk of the image was opened on
-  -- a file alone that reported its content then, it now has the events of the steps after that content and no other. If
-  -- power fails at any moment of them, before or within any write of a device sector, each image that is left reads
-  -- unit by unit as promised (docs/THEOREM.md).
+  -- files that reported their content then, what it reports is this with the events of the steps after it and no other.
+  -- If power fails at any moment of them, before or within any write of a device sector, each image that is left reads
+  -- unit by unit as promised (docs/THEOREM.md). `covered`: what a crash leaves of the files then is such an image.
   pub record SurvivesInFile (names : List (List ℕ)) (disks : List (ImageDisk F g)) (drawer : DrawerState) (steps : List Step) : Type 0 where
     pub place : ℕ
     pub disk : ImageDisk F g
     pub named : slice_get names place ≡ Some drawer.name
     pub opened : slice_get disks place ≡ Some disk
-    pub in_file : IfFileTells told disk (λ c. (drawer.disk.content ≡ Some (after steps c)) × EnduresCrashes steps c)
+    pub in_file : IfFilesTell told disk (λ c. (drawer.disk.content ≡ Some (after steps c)) × EnduresCrashes steps c)
+    pub covered : AreCovered g told drawer.disk
 
   module _ (names : List (List ℕ)) (disks : List (ImageDisk F g)) where
     -- each drawer that is there after a line survives in its file, by the steps that the laws of that line say
@@ -42,8 +44,8 @@ module _ {F : Type 0} {g : Ghosts (FileDisk F)} (told : F → Option Told) where
       pub lines : SurviveEachLine run.lawful.trace.sep (whole_with (idle_drawers names (map image_disk_state disks)) old).world [] (whole_with (idle_drawers names (map image_disk_state disks)) old).world run.lawful.trace.lines run.lawful.lines
       pub exit : (drawer : DrawerState) (among : IsAmong left drawer) → SurvivesInFile names disks drawer (run.lawful.exit drawer among).play.steps
 
--- every run leaves the files so that they survive crashes (`SurviveInFiles`), over disks of which each that is of a
--- file alone reports what that file reports
+-- every run leaves the files so that they survive crashes (`SurviveInFiles`), over disks of which each reports what its
+-- files report
 abbrev pub EachRunSurvives : {F : Type 0} (g : Ghosts (FileDisk F)) (told : F → Option Told) → Type 0
 EachRunSurvives {F} g told =
     (words names : List (List ℕ)) (disks : List (ImageDisk F g)) (old new : OutsideState) (status : Status) (left : List DrawerState)

@@ -56,6 +56,12 @@ module _ {F : Type 0} {g : Ghosts (FileDisk F)} where
   image_disk_state (Behind behind) = write_behind.behind_disk_of behind
   image_disk_state (Join both) = concat.concat_disk_of both
 
+  -- whether room was wanting at the last write that failed: in the one file, or in that of two which failed
+  abbrev pub image_wants_room : ImageDisk F g → Bool
+  image_wants_room (Plain disk) = g.wants_room disk
+  image_wants_room (Behind behind) = g.wants_room behind.under
+  image_wants_room (Join both) = concat.wants_room_of both
+
   -- a disk for which 256 writes may wait, and none does; no call below was refused; what it reports is what the disk
   -- below does
   abbrev pub WaitsFor : FileDisk F → ImageDisk F g → Type 0

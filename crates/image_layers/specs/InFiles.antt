@@ -65,6 +65,11 @@ pub record IsOfBoth (One Other : List (List ℕ) → Type 0) (image : List (List
   pub one : One first
   pub other : Other second
 
+-- each of these images is one of sectors that hold what they may hold
+pub record AreLeft (Whole Torn : List (List ℕ) → Type 0) (kept : ℕ → List (List ℕ)) (c : Content) : Type 0 where
+  pub whole : (image : List (List ℕ)) → Whole image → IsLeft (length c.base) kept image
+  pub torn : (image : List (List ℕ)) → Torn image → IsLeftTorn (length c.base) kept image
+
 -- ---- the files of an image
 
 module _ {F : Type 0} {g : Ghosts (FileDisk F)} (told : F → Option Told) where
@@ -85,11 +90,6 @@ module _ {F : Type 0} {g : Ghosts (FileDisk F)} (told : F → Option Told) where
   IsTornOfFiles (Behind behind) image = IsTornOf (contents (told_in told behind.under.file)) image
   IsTornOfFiles (Join both) image = IsOfBoth (IsTornOf (contents (told_in told both.first.file))) (IsTornOf (contents (told_in told both.second.file))) image
 
-  -- each image that a crash leaves of the files is one of sectors that hold what they may hold where they stand
-  pub record AreLeft (disk : ImageDisk F g) (c : Content) : Type 0 where
-    pub whole : (image : List (List ℕ)) → IsWholeOfFiles disk image → IsLeft (length c.base) (kept_in_files disk) image
-    pub torn : (image : List (List ℕ)) → IsTornOfFiles disk image → IsLeftTorn (length c.base) (kept_in_files disk) image
-
   -- whatever a crash leaves of the files, it may leave of what the disk reports
   abbrev pub IsImageCovered : ImageDisk F g → Type 0
   IsImageCovered disk = IfSome (image_disk_state disk).content (LeavesNoMore (kept_in_files disk))
@@ -102,6 +102,7 @@ AreCovered {F} g told state = (disk : ImageDisk F g) → image_disk_state disk �
 abbrev pub EachIsCovered : {F : Type 0} (g : Ghosts (FileDisk F)) (told : F → Option Told) → Type 0
 EachIsCovered {F} g told = (disk : ImageDisk F g) → IsImageCovered told disk
 
--- each image that a crash leaves of the files of a disk of an image that reports its content is so
+-- If the disk of an image reports its content, each image that a crash leaves of its files holds in each sector what that
+-- may hold where it stands.
 abbrev pub EachIsLeft : {F : Type 0} (g : Ghosts (FileDisk F)) (told : F → Option Told) → Type 0
-EachIsLeft {F} g told = (disk : ImageDisk F g) → IfSome (image_disk_state disk).content (AreLeft told disk)
+EachIsLeft {F} g told = (disk : ImageDisk F g) → IfSome (image_disk_state disk).content (AreLeft (IsWholeOfFiles told disk) (IsTornOfFiles told disk) (kept_in_files told disk))

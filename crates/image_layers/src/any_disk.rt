@@ -3,7 +3,7 @@ ghost use Rattle.std.specs.Prelude.{◌≡◌, ◌+◌, ◌/◌, ◌%◌, ◌<�
 ghost use Rattle.block_traits.specs.Causes.{Counted};
 ghost use Rattle.block_traits.specs.Disk.{FailsIn, Gives, GivesEach, Logs, write_events};
 ghost use Rattle.image_layers.specs.Calls.{ImageCounts, ImageFlushes, ImageLooks, ImageReads, ImageWrites, ImageWritesAll};
-ghost use Rattle.image_layers.specs.Images.{image_disk_state};
+ghost use Rattle.image_layers.specs.Images.{image_disk_state, image_wants_room};
 
 use crate::ImageDisk;
 use block_traits::{Disk, DiskFailed, Event, Sector};
@@ -13,6 +13,7 @@ use file_edge::ImageFile;
 /// of it.
 impl<F: ImageFile + Drop> Disk for ImageDisk<F> {
     ghost state = { λ d. image_disk_state d };
+    ghost wants_room = { λ d. image_wants_room d };
 
     fn sectors(&self) -> u64 {
         match self {
@@ -122,6 +123,10 @@ impl<F: ImageFile + Drop> Disk for ImageDisk<F> {
     }
 
     fn wants_room(&self) -> bool {
-        false
+        match self {
+            ImageDisk::Plain(disk) => disk.wants_room(),
+            ImageDisk::Behind(disk) => disk.wants_room(),
+            ImageDisk::Join(disk) => disk.wants_room(),
+        }
     }
 }

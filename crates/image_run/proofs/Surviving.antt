@@ -20,6 +20,7 @@ use Rattle.run_status.specs.declared.status.Status.{Status}
 use Rattle.image_layers.proofs.Covered.{covered, tells_files}
 use Rattle.image_layers.specs.Images.{IfFilesTell, TellsImage, image_disk_state, told_in_files}
 use Rattle.image_layers.specs.declared.image_disks.ImageDisk.{ImageDisk}
+use Rattle.image_run.proofs.FromFiles.{in_files}
 use Rattle.image_run.specs.Surviving.{SurviveEachLine, SurviveInFiles, SurvivesInFile}
 use Rattle.readings.specs.Steps.{Step, after}
 
@@ -70,14 +71,16 @@ module _ {F : Type 0} {g : Ghosts (FileDisk F)} (told : F → Option Told) where
     by_steps Plays drawer survives =
         let r = is_of names disks survives.before survives.was.0 tell survives.was.1 in
         let content = ap (λ s. s.content) r.state in
+        let grew = in_file r.disk drawer.disk.content survives.play.steps (tells_files told same r.disk r.telling) (survives.content ∙ ap (option_map (after survives.play.steps)) (sym content))
+            (subst (λ (k : Option Content). IfSome k (EnduresCrashes survives.play.steps)) (sym content) survives.endures) in
         record {
           place = r.place;
           disk = r.disk;
           named = r.named ∙ ap Some (sym survives.name);
           opened = r.opened;
-          in_file = in_file r.disk drawer.disk.content survives.play.steps (tells_files told same r.disk r.telling) (survives.content ∙ ap (option_map (after survives.play.steps)) (sym content))
-              (subst (λ (k : Option Content). IfSome k (EnduresCrashes survives.play.steps)) (sym content) survives.endures);
+          in_file = grew;
           covered = λ disk is. covered told same disk;
+          in_files = in_files told r.disk drawer.disk survives.play.steps grew (λ disk is. covered told same disk);
         }
 
     each_line : (sep : Sep) (cabinet : CabinetState) (entropy : EntropyState) (served : List ServedLine) (start : World) (lines : List ServedLine)

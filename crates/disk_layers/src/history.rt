@@ -15,6 +15,7 @@ pub(crate) trait Reads<X> {
 }
 
 /// Events that only proofs see.
+#[derive(Drop)]
 pub(crate) struct History {
     marker: PhantomData<()>,
     pub ghost events: { List Event },
@@ -33,11 +34,5 @@ impl History {
         History {
             marker: PhantomData,
         }
-    }
-}
-
-impl Drop for History {
-    fn drop(self) {
-        let Self { marker: _ } = self;
     }
 }

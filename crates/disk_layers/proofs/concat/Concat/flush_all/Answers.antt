@@ -41,6 +41,6 @@ invariant_of-self-2 g c =
     let other = c.in_ok-flush-2.ensures.ok in
     record {
       small = omega (arith, one.size, other.size, c.args.self.now.small);
-      fits = both-fit past c.flushed.result.events a new b last one other c.flushed.ensures c.args.self.now.fits;
-      covered = both-cover past c.flushed.result.events a new b last one other c.flushed.ensures c.args.self.now.covered;
+      fits = both-fit past c.flushed-self.result.events a new b last one other c.flushed-self.ensures c.args.self.now.fits;
+      covered = both-cover past c.flushed-self.result.events a new b last one other c.flushed-self.ensures c.args.self.now.covered;
     }

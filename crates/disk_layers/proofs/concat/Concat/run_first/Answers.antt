@@ -14,7 +14,7 @@ invariant_of-self-clause-fits g c =
     let other = g.B.Disk.state c.args.self.now.second in
     let past : List Event = c.args.self.now.past.events in
     let events : List Event = write_events c.args.first c.args.from.now in
-    let noted = noted-first past c.with_first.result.events c.history_of-before.result.events old.content new.content c.history_of-before.ensures c.with_first.ensures in
+    let noted = noted-first past c.with_first-self.result.events c.history_of-before.result.events old.content new.content c.history_of-before.ensures c.with_first-self.ensures in
     let part = Part-answer events c.write_some-answer.result {old = old} {new = new} (on_ok c.write_some-answer.result (λ h. h.logs) c.write_some-answer.ensures.did) (on_err c.write_some-answer.result (λ h. h.fails) c.write_some-answer.ensures.failed) in
     subst (λ (l : List Event). FitsSize (new.size + other.size) (joined_content l new.content other.content)) (sym noted) (first-fits events past old new other part c.args.self.now.fits)
 
@@ -25,7 +25,7 @@ invariant_of-self-clause-covered g c =
     let other = g.B.Disk.state c.args.self.now.second in
     let past : List Event = c.args.self.now.past.events in
     let events : List Event = write_events c.args.first c.args.from.now in
-    let noted = noted-first past c.with_first.result.events c.history_of-before.result.events old.content new.content c.history_of-before.ensures c.with_first.ensures in
+    let noted = noted-first past c.with_first-self.result.events c.history_of-before.result.events old.content new.content c.history_of-before.ensures c.with_first-self.ensures in
     let part = Part-answer events c.write_some-answer.result {old = old} {new = new} (on_ok c.write_some-answer.result (λ h. h.logs) c.write_some-answer.ensures.did) (on_err c.write_some-answer.result (λ h. h.fails) c.write_some-answer.ensures.failed) in
     subst (λ (l : List Event). CoversBoth new.size new.content other.content (joined_content l new.content other.content)) (sym noted) (first-covers events past old new other part c.args.self.now.covered)
 
@@ -36,8 +36,8 @@ returns-clause-ok g c =
     let other = g.B.Disk.state c.args.self.now.second in
     let past : List Event = c.args.self.now.past.events in
     let events : List Event = write_events c.args.first c.args.from.now in
-    let noted = noted-first past c.with_first.result.events c.history_of-before.result.events old.content new.content c.history_of-before.ensures c.with_first.ensures in
-    on_ok c.write_some-answer.result (first-logs past c.with_first.result.events old new other _ _ (record { content = refl; size = refl; shows = refl; faults = refl }) (record { content = refl; size = refl; shows = refl; faults = refl }) events (AreWrites-from c.args.first _) noted) (on_ok c.write_some-answer.result (λ h. h.logs) c.write_some-answer.ensures.did)
+    let noted = noted-first past c.with_first-self.result.events c.history_of-before.result.events old.content new.content c.history_of-before.ensures c.with_first-self.ensures in
+    on_ok c.write_some-answer.result (first-logs past c.with_first-self.result.events old new other _ _ (record { content = refl; size = refl; shows = refl; faults = refl }) (record { content = refl; size = refl; shows = refl; faults = refl }) events (AreWrites-from c.args.first _) noted) (on_ok c.write_some-answer.result (λ h. h.logs) c.write_some-answer.ensures.did)
 
 pub returns-clause-err : goal.returns-clause-err
 returns-clause-err g c =
@@ -46,8 +46,8 @@ returns-clause-err g c =
     let other = g.B.Disk.state c.args.self.now.second in
     let past : List Event = c.args.self.now.past.events in
     let events : List Event = write_events c.args.first c.args.from.now in
-    let noted = noted-first past c.with_first.result.events c.history_of-before.result.events old.content new.content c.history_of-before.ensures c.with_first.ensures in
-    on_err c.write_some-answer.result (first-fails past c.with_first.result.events old new other _ _ (record { content = refl; size = refl; shows = refl; faults = refl }) (record { content = refl; size = refl; shows = refl; faults = refl }) events (AreWrites-from c.args.first _) noted) (on_err c.write_some-answer.result (λ h. h.fails) c.write_some-answer.ensures.failed)
+    let noted = noted-first past c.with_first-self.result.events c.history_of-before.result.events old.content new.content c.history_of-before.ensures c.with_first-self.ensures in
+    on_err c.write_some-answer.result (first-fails past c.with_first-self.result.events old new other _ _ (record { content = refl; size = refl; shows = refl; faults = refl }) (record { content = refl; size = refl; shows = refl; faults = refl }) events (AreWrites-from c.args.first _) noted) (on_err c.write_some-answer.result (λ h. h.fails) c.write_some-answer.ensures.failed)
 
 pub returns-clause-failed_last : goal.returns-clause-failed_last
 returns-clause-failed_last g c =

@@ -15,7 +15,7 @@ invariant_of-self-clause-fits g c =
     let past : List Event = c.args.self.now.past.events in
     let events : List Event = write_events c.args.first c.args.from.now in
     let all : List Event = write_events (c.args.first + c.args.size) c.args.from.now in
-    let noted = noted-second c.args.size past c.with_second.result.events c.history_of-before.result.events old.content new.content c.history_of-before.ensures c.with_second.ensures in
+    let noted = noted-second c.args.size past c.with_second-self.result.events c.history_of-before.result.events old.content new.content c.history_of-before.ensures c.with_second-self.ensures in
     let part = Part-answer events c.write_some-answer.result {old = old} {new = new} (on_ok c.write_some-answer.result (λ h. h.logs) c.write_some-answer.ensures.did) (on_err c.write_some-answer.result (λ h. h.fails) c.write_some-answer.ensures.failed) in
     subst (λ (l : List Event). FitsSize (other.size + new.size) (joined_content l other.content new.content)) (sym noted) (second-fits events past old new other part c.args.size c.requires.size c.args.self.now.fits)
 
@@ -27,7 +27,7 @@ invariant_of-self-clause-covered g c =
     let past : List Event = c.args.self.now.past.events in
     let events : List Event = write_events c.args.first c.args.from.now in
     let all : List Event = write_events (c.args.first + c.args.size) c.args.from.now in
-    let noted = noted-second c.args.size past c.with_second.result.events c.history_of-before.result.events old.content new.content c.history_of-before.ensures c.with_second.ensures in
+    let noted = noted-second c.args.size past c.with_second-self.result.events c.history_of-before.result.events old.content new.content c.history_of-before.ensures c.with_second-self.ensures in
     let part = Part-answer events c.write_some-answer.result {old = old} {new = new} (on_ok c.write_some-answer.result (λ h. h.logs) c.write_some-answer.ensures.did) (on_err c.write_some-answer.result (λ h. h.fails) c.write_some-answer.ensures.failed) in
     subst (λ (l : List Event). CoversBoth other.size other.content new.content (joined_content l other.content new.content)) (sym noted) (second-covers events past old new other part c.args.size c.requires.size c.args.self.now.covered)
 
@@ -39,8 +39,8 @@ returns-clause-ok g c =
     let past : List Event = c.args.self.now.past.events in
     let events : List Event = write_events c.args.first c.args.from.now in
     let all : List Event = write_events (c.args.first + c.args.size) c.args.from.now in
-    let noted = noted-second c.args.size past c.with_second.result.events c.history_of-before.result.events old.content new.content c.history_of-before.ensures c.with_second.ensures in
-    on_ok c.write_some-answer.result (second-logs past c.with_second.result.events other old new _ _ (record { content = refl; size = refl; shows = refl; faults = refl }) (record { content = refl; size = refl; shows = refl; faults = refl }) c.args.size events all (AreWrites-from c.args.first _) (moved-from c.args.size c.args.first _) noted) (on_ok c.write_some-answer.result (λ h. h.logs) c.write_some-answer.ensures.did)
+    let noted = noted-second c.args.size past c.with_second-self.result.events c.history_of-before.result.events old.content new.content c.history_of-before.ensures c.with_second-self.ensures in
+    on_ok c.write_some-answer.result (second-logs past c.with_second-self.result.events other old new _ _ (record { content = refl; size = refl; shows = refl; faults = refl }) (record { content = refl; size = refl; shows = refl; faults = refl }) c.args.size events all (AreWrites-from c.args.first _) (moved-from c.args.size c.args.first _) noted) (on_ok c.write_some-answer.result (λ h. h.logs) c.write_some-answer.ensures.did)
 
 pub returns-clause-err : goal.returns-clause-err
 returns-clause-err g c =
@@ -50,8 +50,8 @@ returns-clause-err g c =
     let past : List Event = c.args.self.now.past.events in
     let events : List Event = write_events c.args.first c.args.from.now in
     let all : List Event = write_events (c.args.first + c.args.size) c.args.from.now in
-    let noted = noted-second c.args.size past c.with_second.result.events c.history_of-before.result.events old.content new.content c.history_of-before.ensures c.with_second.ensures in
-    on_err c.write_some-answer.result (second-fails past c.with_second.result.events other old new _ _ (record { content = refl; size = refl; shows = refl; faults = refl }) (record { content = refl; size = refl; shows = refl; faults = refl }) c.args.size events all (AreWrites-from c.args.first _) (moved-from c.args.size c.args.first _) noted) (on_err c.write_some-answer.result (λ h. h.fails) c.write_some-answer.ensures.failed)
+    let noted = noted-second c.args.size past c.with_second-self.result.events c.history_of-before.result.events old.content new.content c.history_of-before.ensures c.with_second-self.ensures in
+    on_err c.write_some-answer.result (second-fails past c.with_second-self.result.events other old new _ _ (record { content = refl; size = refl; shows = refl; faults = refl }) (record { content = refl; size = refl; shows = refl; faults = refl }) c.args.size events all (AreWrites-from c.args.first _) (moved-from c.args.size c.args.first _) noted) (on_err c.write_some-answer.result (λ h. h.fails) c.write_some-answer.ensures.failed)
 
 pub returns-clause-failed_last : goal.returns-clause-failed_last
 returns-clause-failed_last g c =

@@ -15,7 +15,7 @@ invariant_of-self-clause-fits g c =
     let other = g.B.Disk.state c.args.self.now.second in
     let past : List Event = c.args.self.now.past.events in
     let events : List Event = Write c.args.n c.args.from.now ∷ [] in
-    let noted = noted-first past c.with_first.result.events c.history_of-before.result.events old.content new.content c.history_of-before.ensures c.with_first.ensures in
+    let noted = noted-first past c.with_first-self.result.events c.history_of-before.result.events old.content new.content c.history_of-before.ensures c.with_first-self.ensures in
     let part = Part-answer events c.write-answer.result {old = old} {new = new} (c.write-answer.ensures.ok) (c.write-answer.ensures.err) in
     subst (λ (l : List Event). FitsSize (new.size + other.size) (joined_content l new.content other.content)) (sym noted) (first-fits events past old new other part c.args.self.now.fits)
 
@@ -26,7 +26,7 @@ invariant_of-self-clause-covered g c =
     let other = g.B.Disk.state c.args.self.now.second in
     let past : List Event = c.args.self.now.past.events in
     let events : List Event = Write c.args.n c.args.from.now ∷ [] in
-    let noted = noted-first past c.with_first.result.events c.history_of-before.result.events old.content new.content c.history_of-before.ensures c.with_first.ensures in
+    let noted = noted-first past c.with_first-self.result.events c.history_of-before.result.events old.content new.content c.history_of-before.ensures c.with_first-self.ensures in
     let part = Part-answer events c.write-answer.result {old = old} {new = new} (c.write-answer.ensures.ok) (c.write-answer.ensures.err) in
     subst (λ (l : List Event). CoversBoth new.size new.content other.content (joined_content l new.content other.content)) (sym noted) (first-covers events past old new other part c.args.self.now.covered)
 
@@ -37,8 +37,8 @@ returns-clause-ok g c =
     let other = g.B.Disk.state c.args.self.now.second in
     let past : List Event = c.args.self.now.past.events in
     let events : List Event = Write c.args.n c.args.from.now ∷ [] in
-    let noted = noted-first past c.with_first.result.events c.history_of-before.result.events old.content new.content c.history_of-before.ensures c.with_first.ensures in
-    on_ok c.write-answer.result (first-logs past c.with_first.result.events old new other _ _ (record { content = refl; size = refl; shows = refl; faults = refl }) (record { content = refl; size = refl; shows = refl; faults = refl }) events (AreWrites-one c.args.n c.args.from.now) noted) (c.write-answer.ensures.ok)
+    let noted = noted-first past c.with_first-self.result.events c.history_of-before.result.events old.content new.content c.history_of-before.ensures c.with_first-self.ensures in
+    on_ok c.write-answer.result (first-logs past c.with_first-self.result.events old new other _ _ (record { content = refl; size = refl; shows = refl; faults = refl }) (record { content = refl; size = refl; shows = refl; faults = refl }) events (AreWrites-one c.args.n c.args.from.now) noted) (c.write-answer.ensures.ok)
 
 pub returns-clause-err : goal.returns-clause-err
 returns-clause-err g c =
@@ -47,8 +47,8 @@ returns-clause-err g c =
     let other = g.B.Disk.state c.args.self.now.second in
     let past : List Event = c.args.self.now.past.events in
     let events : List Event = Write c.args.n c.args.from.now ∷ [] in
-    let noted = noted-first past c.with_first.result.events c.history_of-before.result.events old.content new.content c.history_of-before.ensures c.with_first.ensures in
-    on_err c.write-answer.result (first-fails past c.with_first.result.events old new other _ _ (record { content = refl; size = refl; shows = refl; faults = refl }) (record { content = refl; size = refl; shows = refl; faults = refl }) events (AreWrites-one c.args.n c.args.from.now) noted) (c.write-answer.ensures.err)
+    let noted = noted-first past c.with_first-self.result.events c.history_of-before.result.events old.content new.content c.history_of-before.ensures c.with_first-self.ensures in
+    on_err c.write-answer.result (first-fails past c.with_first-self.result.events old new other _ _ (record { content = refl; size = refl; shows = refl; faults = refl }) (record { content = refl; size = refl; shows = refl; faults = refl }) events (AreWrites-one c.args.n c.args.from.now) noted) (c.write-answer.ensures.err)
 
 pub returns-clause-failed_last : goal.returns-clause-failed_last
 returns-clause-failed_last g c =

@@ -16,7 +16,7 @@ invariant_of-self-clause-fits g c =
     let past : List Event = c.args.self.now.past.events in
     let events : List Event = Write c.args.n c.args.from.now ∷ [] in
     let all : List Event = Write (c.args.n + c.args.size) c.args.from.now ∷ [] in
-    let noted = noted-second c.args.size past c.with_second.result.events c.history_of-before.result.events old.content new.content c.history_of-before.ensures c.with_second.ensures in
+    let noted = noted-second c.args.size past c.with_second-self.result.events c.history_of-before.result.events old.content new.content c.history_of-before.ensures c.with_second-self.ensures in
     let part = Part-answer events c.write-answer.result {old = old} {new = new} (c.write-answer.ensures.ok) (c.write-answer.ensures.err) in
     subst (λ (l : List Event). FitsSize (other.size + new.size) (joined_content l other.content new.content)) (sym noted) (second-fits events past old new other part c.args.size c.requires.size c.args.self.now.fits)
 
@@ -28,7 +28,7 @@ invariant_of-self-clause-covered g c =
     let past : List Event = c.args.self.now.past.events in
     let events : List Event = Write c.args.n c.args.from.now ∷ [] in
     let all : List Event = Write (c.args.n + c.args.size) c.args.from.now ∷ [] in
-    let noted = noted-second c.args.size past c.with_second.result.events c.history_of-before.result.events old.content new.content c.history_of-before.ensures c.with_second.ensures in
+    let noted = noted-second c.args.size past c.with_second-self.result.events c.history_of-before.result.events old.content new.content c.history_of-before.ensures c.with_second-self.ensures in
     let part = Part-answer events c.write-answer.result {old = old} {new = new} (c.write-answer.ensures.ok) (c.write-answer.ensures.err) in
     subst (λ (l : List Event). CoversBoth other.size other.content new.content (joined_content l other.content new.content)) (sym noted) (second-covers events past old new other part c.args.size c.requires.size c.args.self.now.covered)
 
@@ -40,8 +40,8 @@ returns-clause-ok g c =
     let past : List Event = c.args.self.now.past.events in
     let events : List Event = Write c.args.n c.args.from.now ∷ [] in
     let all : List Event = Write (c.args.n + c.args.size) c.args.from.now ∷ [] in
-    let noted = noted-second c.args.size past c.with_second.result.events c.history_of-before.result.events old.content new.content c.history_of-before.ensures c.with_second.ensures in
-    on_ok c.write-answer.result (second-logs past c.with_second.result.events other old new _ _ (record { content = refl; size = refl; shows = refl; faults = refl }) (record { content = refl; size = refl; shows = refl; faults = refl }) c.args.size events all (AreWrites-one c.args.n c.args.from.now) refl noted) (c.write-answer.ensures.ok)
+    let noted = noted-second c.args.size past c.with_second-self.result.events c.history_of-before.result.events old.content new.content c.history_of-before.ensures c.with_second-self.ensures in
+    on_ok c.write-answer.result (second-logs past c.with_second-self.result.events other old new _ _ (record { content = refl; size = refl; shows = refl; faults = refl }) (record { content = refl; size = refl; shows = refl; faults = refl }) c.args.size events all (AreWrites-one c.args.n c.args.from.now) refl noted) (c.write-answer.ensures.ok)
 
 pub returns-clause-err : goal.returns-clause-err
 returns-clause-err g c =
@@ -51,8 +51,8 @@ returns-clause-err g c =
     let past : List Event = c.args.self.now.past.events in
     let events : List Event = Write c.args.n c.args.from.now ∷ [] in
     let all : List Event = Write (c.args.n + c.args.size) c.args.from.now ∷ [] in
-    let noted = noted-second c.args.size past c.with_second.result.events c.history_of-before.result.events old.content new.content c.history_of-before.ensures c.with_second.ensures in
-    on_err c.write-answer.result (second-fails past c.with_second.result.events other old new _ _ (record { content = refl; size = refl; shows = refl; faults = refl }) (record { content = refl; size = refl; shows = refl; faults = refl }) c.args.size events all (AreWrites-one c.args.n c.args.from.now) refl noted) (c.write-answer.ensures.err)
+    let noted = noted-second c.args.size past c.with_second-self.result.events c.history_of-before.result.events old.content new.content c.history_of-before.ensures c.with_second-self.ensures in
+    on_err c.write-answer.result (second-fails past c.with_second-self.result.events other old new _ _ (record { content = refl; size = refl; shows = refl; faults = refl }) (record { content = refl; size = refl; shows = refl; faults = refl }) c.args.size events all (AreWrites-one c.args.n c.args.from.now) refl noted) (c.write-answer.ensures.err)
 
 pub returns-clause-failed_last : goal.returns-clause-failed_last
 returns-clause-failed_last g c =

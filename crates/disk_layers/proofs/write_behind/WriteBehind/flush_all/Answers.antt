@@ -35,14 +35,14 @@ returns-in_err-write_all-clause-err g c =
 pub invariant_of-self-clause-fits : goal.invariant_of-self-clause-fits
 invariant_of-self-clause-fits g c =
     let before = c.write_all.new.self in
-    flush-fits before.past.events c.flushed.result.events (g.D.Disk.state before.under) (g.D.Disk.state c.flush.new.self) c.in-Ok.ensures.ok c.flushed.ensures before.fits
+    flush-fits before.past.events c.flushed-self.result.events (g.D.Disk.state before.under) (g.D.Disk.state c.flush.new.self) c.in-Ok.ensures.ok c.flushed-self.ensures before.fits
 
 pub invariant_of-self-clause-covered : goal.invariant_of-self-clause-covered
 invariant_of-self-clause-covered g c =
     let before = c.write_all.new.self in
     let new = g.D.Disk.state c.flush.new.self in
     let none = c.in_ok-write_all.ensures.none in
-    subst (λ (l : List Event). CoversTold (logged (writes_of before.waiting.items) new.content) (with_history l new.content)) (sym c.flushed.ensures)
+    subst (λ (l : List Event). CoversTold (logged (writes_of before.waiting.items) new.content) (with_history l new.content)) (sym c.flushed-self.ensures)
     (flush-covers before.past.events (g.D.Disk.state before.under) new before.waiting.items before.waiting.items c.in-Ok.ensures.ok none none before.covered)
 
 pub invariant_of-self-in-Err-clause-fits : goal.invariant_of-self-in-Err-clause-fits
@@ -68,7 +68,7 @@ returns-in-Ok-clause-ok g c =
     let logs = c.in-Ok.ensures.ok in
     let told = with_history c.args.self.now.past.events (g.D.Disk.state c.args.self.now.under).content in
     record {
-      content = flush-reported before.past.events c.flushed.result.events (g.D.Disk.state before.under) (g.D.Disk.state c.flush.new.self) logs c.flushed.ensures ∙ ap (logged (Flush ∷ [])) (quiet.content ∙ logged-none told);
+      content = flush-reported before.past.events c.flushed-self.result.events (g.D.Disk.state before.under) (g.D.Disk.state c.flush.new.self) logs c.flushed-self.ensures ∙ ap (logged (Flush ∷ [])) (quiet.content ∙ logged-none told);
       size = logs.size ∙ quiet.size;
       shows = refl;
       faults = omega (arith, logs.faults, quiet.faults);

@@ -25,7 +25,7 @@ invariant_of-self-clause-fits g c =
     let bytes = c.args.from.now in
     let sector : length bytes ≡ 512 = search rules in
     let fit : All (IsEventOf d.size) (Write c.args.n bytes ∷ []) = All-cons (IsEventOf d.size) (Write c.args.n bytes) [] (c.requires.inside, sector) (All-nil (IsEventOf d.size)) in
-    subst (λ (l : List Event). FitsSize d.size (with_history l d.content)) (sym c.written.ensures) (more-fits d.size past (Write c.args.n bytes ∷ []) d.content fit c.args.self.now.fits)
+    subst (λ (l : List Event). FitsSize d.size (with_history l d.content)) (sym c.written-self.ensures) (more-fits d.size past (Write c.args.n bytes ∷ []) d.content fit c.args.self.now.fits)
 
 pub invariant_of-self-clause-covered : goal.invariant_of-self-clause-covered
 invariant_of-self-clause-covered g c =
@@ -33,13 +33,13 @@ invariant_of-self-clause-covered g c =
     let past = c.args.self.now.past.events in
     let write : Waiting = record { n = c.args.n; bytes = c.args.from.now } in
     let P = λ (w : List Waiting) (l : List Event). CoversTold (logged (writes_of w) d.content) (with_history l d.content) in
-    subst₂ P (sym c.push_back_reserved.ensures.items) (sym c.written.ensures) (push-covers past d.content c.args.self.now.waiting.items write c.args.self.now.covered)
+    subst₂ P (sym c.push_back_reserved.ensures.items) (sym c.written-self.ensures) (push-covers past d.content c.args.self.now.waiting.items write c.args.self.now.covered)
 
 pub returns-clause-logs : goal.returns-clause-logs
 returns-clause-logs g c =
     let d = g.D.Disk.state c.args.self.now.under in
     record {
-      content = ap (λ (l : List Event). with_history l d.content) c.written.ensures ∙ anew-more c.args.self.now.past.events (Write c.args.n c.args.from.now ∷ []) d.content;
+      content = ap (λ (l : List Event). with_history l d.content) c.written-self.ensures ∙ anew-more c.args.self.now.past.events (Write c.args.n c.args.from.now ∷ []) d.content;
       size = refl;
       shows = refl;
       faults = omega arith;

@@ -5,6 +5,7 @@ mod concat;
 mod history;
 mod laws;
 mod layer;
+mod moments;
 mod noting;
 mod write_behind;
 

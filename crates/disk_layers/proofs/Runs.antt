@@ -1,7 +1,7 @@
 -- Runs of sectors that are written over two disks that are one.
-use Rattle.std.proofs.Common.{◌≡◌, ℕ, zero, suc, min, inl, inr, subst, Result, Ok, Err, IsErr, OnOk, OnErr, true≢false, ◌+◌, ◌-◌, ◌*◌, ◌/◌, ◌≤◌, nat_lt, Bool, true, false, cond, List, [], ◌∷◌, length, take, drop, refl, sym, ap, ◌∙◌, arith}
-use Rattle.std.proofs.lemmas.Bool.{ltb-true, ltb-false}
-use Rattle.std.proofs.lemmas.List.{drop-drop, drop-take, length-drop, length-take-le}
+use Rattle.std.proofs.Common.{◌≡◌, ℕ, zero, suc, min, inl, inr, subst, Result, Ok, Err, IsErr, OnOk, OnErr, true≢false, ◌+◌, ◌-◌, ◌*◌, ◌/◌, ◌≤◌, nat_lt, Bool, true, false, cond, List, [], ◌∷◌, ◌++◌, length, take, drop, refl, sym, ap, ◌∙◌, arith}
+use Rattle.std.proofs.lemmas.Bool.{cases_lt, ltb-true, ltb-false}
+use Rattle.std.proofs.lemmas.List.{drop-drop, drop-take, drop_all, length-drop, length-take-le}
 use Rattle.block_traits.specs.declared.disk.DiskFailed.{DiskFailed}
 use Rattle.block_traits.specs.declared.disk.Event.{Event}
 use Rattle.block_traits.specs.declared.disk.Event.TheVariants.{Write}
@@ -122,6 +122,42 @@ module _ (size n k : ℕ) (bytes : List ℕ) where
       ∙ ap (writes_from (n - size)) (drop-least (size - n) k (parts 512 count bytes) (omega (arith, length-parts 512 count bytes)) ∙ drop-parts 512 k count bytes)
       ∙ sym (ap (λ (m : ℕ). writes_from (n - size) (parts 512 m (drop (512 * k) bytes))) left)
 
+-- ---- both parts of a run
+
+writes-split : (k n : ℕ) (sectors : List (List ℕ)) → writes_from n (take k sectors) ++ writes_from (n + k) (drop k sectors) ≡ writes_from n sectors
+writes-split zero n sectors = let here : n + 0 ≡ n = omega arith in ap (λ (m : ℕ). writes_from m sectors) here
+writes-split (suc k) n [] = refl
+writes-split (suc k) n (sector ∷ sectors) =
+    let next : n + suc k ≡ n + 1 + k = omega arith in
+    ap (λ (l : List Event). Write n sector ∷ l) (ap (λ (m : ℕ). writes_from (n + 1) (take k sectors) ++ writes_from m (drop k sectors)) next ∙ writes-split k (n + 1) sectors)
+
+-- where the second part begins, if there is one
+second-number : (size n k : ℕ) (sectors : List (List ℕ)) → k ≡ min (size - n) (length sectors) → writes_from (n - size + size) (drop k sectors) ≡ writes_from (n + k) (drop k sectors)
+second-number size n k sectors is = elim (cases_lt k (length sectors)) [
+  | inl more ↦ let same : n - size + size ≡ n + k = omega arith in ap (λ (m : ℕ). writes_from m (drop k sectors)) same
+  | inr all ↦ let none : drop k sectors ≡ [] = drop_all k sectors all in
+      ap (writes_from (n - size + size)) none ∙ sym (ap (writes_from (n + k)) none)
+]
+
+pub run-split : (size n k : ℕ) (bytes : List ℕ) → k ≡ min (size - n) (length bytes / 512) → write_events n (take (512 * k) bytes) ++ write_events (n - size + size) (drop (512 * k) bytes) ≡ write_events n bytes
+run-split size n k bytes is =
+    let count : ℕ = length bytes / 512 in
+    let sectors : List (List ℕ) = parts 512 count bytes in
+    let few : k ≤ count = omega arith in
+    let many : length (take (512 * k) bytes) / 512 ≡ k = omega (arith, length-take-le (512 * k) bytes (omega arith)) in
+    let left : length (drop (512 * k) bytes) / 512 ≡ count - k = omega (arith, length-drop (512 * k) bytes) in
+    let front : write_events n (take (512 * k) bytes) ≡ writes_from n (take k sectors) =
+    ap (λ (m : ℕ). writes_from n (parts 512 m (take (512 * k) bytes))) many ∙ ap (writes_from n) (sym (take-parts 512 k count bytes few)) in
+    let back : write_events (n - size + size) (drop (512 * k) bytes) ≡ writes_from (n - size + size) (drop k sectors) =
+    ap (λ (m : ℕ). writes_from (n - size + size) (parts 512 m (drop (512 * k) bytes))) left ∙ ap (writes_from (n - size + size)) (sym (drop-parts 512 k count bytes)) in
+    let place : k ≡ min (size - n) (length sectors) = omega (arith, length-parts 512 count bytes) in
+    (λ i. front i ++ back i) ∙ ap (λ (l : List Event). writes_from n (take k sectors) ++ l) (second-number size n k sectors place) ∙ writes-split k n sectors
+
+-- the same, by the bytes and numbers of both parts
+pub run-parts : (size n m k : ℕ) (bytes front back : List ℕ) → k ≡ min (size - n) (length bytes / 512) → m ≡ n - size → front ≡ take (512 * k) bytes → back ≡ drop (512 * k) bytes
+    → write_events n front ++ write_events (m + size) back ≡ write_events n bytes
+run-parts size n m k bytes front back is at one other = (λ i. write_events n (one i) ++ write_events (at i + size) (other i)) ∙ run-split size n k bytes is
+
 -- ---- what was done, by what each of the two did
 
 module _ {A B : Type 0} (a : A → DiskState) (b : B → DiskState) (size n k : ℕ) (bytes : List ℕ) (old new : A) (old_second new_second : B) where
@@ -129,10 +165,10 @@ module _ {A B : Type 0} (a : A → DiskState) (b : B → DiskState) (size n k : 
   first-did same is did = subst (λ (m : ℕ). LogsOnly a (first_events m (write_events n bytes)) old new) same (subst (λ (events : List Event). LogsOnly a events old new) (sym (first-run size n k bytes is)) did)
 
   pub first-failed : (result : Result (Unit {0}) DiskFailed) → IsErr result → size ≡ (a old).size → k ≡ min (size - n) (length bytes / 512) → FailsToDo a (write_events n (take (512 * k) bytes)) old new
-      → BothDo a b (write_events n bytes) old new old_second old_second result
-  first-failed (Ok done) is_err same is failed = absurd (true≢false (sym is_err))
-  first-failed (Err fault) is_err same is failed =
-      inl (subst (λ (m : ℕ). FailsToDo a (first_events m (write_events n bytes)) old new) same (subst (λ (events : List Event). FailsToDo a events old new) (sym (first-run size n k bytes is)) failed), refl)
+      → new_second ≡ old_second → BothDo a b (write_events n bytes) old new old_second new_second result
+  first-failed (Ok done) is_err same is failed beside = absurd (true≢false (sym is_err))
+  first-failed (Err fault) is_err same is failed beside =
+      inl (subst (λ (m : ℕ). FailsToDo a (first_events m (write_events n bytes)) old new) same (subst (λ (events : List Event). FailsToDo a events old new) (sym (first-run size n k bytes is)) failed), beside)
 
   pub second-answered : (result : Result (Unit {0}) DiskFailed) → size ≡ (a old).size → k ≡ min (size - n) (length bytes / 512) → LogsOnly a (write_events n (take (512 * k) bytes)) old new
       → OnOk result (LogsOnly b (write_events (n - size) (drop (512 * k) bytes)) old_second new_second) → OnErr result (FailsToDo b (write_events (n - size) (drop (512 * k) bytes)) old_second new_second)

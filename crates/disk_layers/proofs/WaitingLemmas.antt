@@ -1,11 +1,11 @@
 -- Writes that wait, and what is done of them.
-use Rattle.std.proofs.Common.{◌≡◌, ◌≢◌, ℕ, ◌==◌, Bool, true, false, Bor, eq-eqb, ne_eqb, List, [], ◌∷◌, ◌++◌, map, cond, Option, Some, None, refl, sym, ap, ◌∙◌, subst, append_assoc, append-nil, get_or, unwrap_or, Contains}
+use Rattle.std.proofs.Common.{◌≡◌, ◌≢◌, ◌≤◌, ℕ, ◌==◌, arith, length, length-append, Bool, true, false, Bor, eq-eqb, ne_eqb, List, [], ◌∷◌, ◌++◌, map, cond, Option, Some, None, refl, sym, ap, ◌∙◌, subst, append_assoc, get_or, unwrap_or, Contains}
 use Rattle.block_traits.specs.declared.disk.Event.{Event}
 use Rattle.block_traits.specs.Content.{Content, kept_after, kept_values, logged, present, present_after, with_events}
 use Rattle.block_traits.specs.Disk.{DiskState, FailsIn, GivesFrom, Logs}
 use Rattle.block_traits.proofs.Contents.{kept_after-append, present_after-append}
 use Rattle.std.proofs.lemmas.List.Elements.{Contains-append_left}
-use Rattle.block_traits.proofs.Logs.{Logs-nothing, Logs-then}
+use Rattle.block_traits.proofs.Logs.{Logs-then}
 use Rattle.disk_layers.specs.declared.write_behind.Waiting.{Waiting}
 use Rattle.disk_layers.specs.Waiting.{StopsIn, last_after, last_waiting, write_of, writes_of}
 
@@ -29,7 +29,7 @@ pub found_before : (n : ℕ) (writes : List (Bor Waiting)) (write : Bor Waiting)
 found_before n writes write found other before =
     before ∙ sym (last_after-push n writes write None ∙ ap (λ (b : Bool). cond b (Some write.now.bytes) (last_waiting n (seen writes))) (ne_eqb write.now.n n other))
 
-writes_of-append : (waiting more : List Waiting) → writes_of (waiting ++ more) ≡ writes_of waiting ++ writes_of more
+pub writes_of-append : (waiting more : List Waiting) → writes_of (waiting ++ more) ≡ writes_of waiting ++ writes_of more
 writes_of-append [] more = refl
 writes_of-append (write ∷ waiting) more = ap (λ (l : List Event). write_of write ∷ l) (writes_of-append waiting more)
 
@@ -73,6 +73,20 @@ pub kept_in_order : (c : Content) (waiting : List Waiting) (n : ℕ) (value : Li
 kept_in_order c waiting n value is =
     let P : List (List ℕ) → Type 0 = λ values. Contains values value in
     subst P (sym (kept_after-append c.history (writes_of waiting) n (get_or c.base n [] ∷ []))) (kept_by_writes waiting n (kept_values c n) value is)
+
+longer_written : (here : Bool) (values : List (List ℕ)) (new : List ℕ) → length values ≤ length (cond here (values ++ new ∷ []) values)
+longer_written true values new = omega (arith, length-append values (new ∷ []))
+longer_written false values new = omega arith
+
+longer_by_writes : (waiting : List Waiting) (n : ℕ) (values : List (List ℕ)) → length values ≤ length (kept_after (writes_of waiting) n values)
+longer_by_writes [] n values = omega arith
+longer_by_writes (write ∷ waiting) n values =
+    omega (arith, longer_written (write.n == n) values write.bytes, longer_by_writes waiting n (cond (write.n == n) (values ++ write.bytes ∷ []) values))
+
+-- with the writes that wait a sector keeps no fewer values
+pub longer_in_order : (c : Content) (waiting : List Waiting) (n : ℕ) → length (kept_values c n) ≤ length (kept_values (with_events (writes_of waiting) c) n)
+longer_in_order c waiting n =
+    omega (arith, longer_by_writes waiting n (kept_values c n), ap length (kept_after-append c.history (writes_of waiting) n (get_or c.base n [] ∷ [])))
 
 -- ---- what a read gives
 

@@ -1,14 +1,11 @@
 -- Two disks as one.
-use Rattle.std.specs.Prelude.{◌≡◌, ◌⊎◌, ℕ, ◌+◌, ◌-◌, ◌<◌, ◌≤◌, ◌^◌, nat_lt, List, [], ◌∷◌, if◌then◌else◌, Result, Ok, Err}
+use Rattle.std.specs.Prelude.{◌≡◌, ◌⊎◌, ℕ, ◌-◌, ◌<◌, ◌≤◌, nat_lt, List, [], ◌∷◌, if◌then◌else◌, Bool, true, false, Result, Ok, Err}
 use Rattle.block_traits.specs.declared.disk.DiskFailed.{DiskFailed}
 use Rattle.block_traits.specs.declared.disk.Event.{Event}
 use Rattle.block_traits.specs.declared.disk.Event.TheVariants.{Write, Flush}
-use Rattle.block_traits.specs.Disk.{DiskState, FailsIn, Logs, untold}
+use Rattle.block_traits.specs.Causes.{Rose}
+use Rattle.block_traits.specs.Disk.{DiskState, FailsIn, Logs}
 use Rattle.disk_layers.specs.Calls.{AsksSector, ChangesSector}
-
--- two disks as one disk: the sectors, the faults and the reads of both, and no content
-abbrev pub joined_disks : (a b : DiskState) → a.size + b.size < 2 ^ 44 → DiskState
-joined_disks a b small = untold (a.size + b.size) (a.faults + b.faults) (a.reads + b.reads) small
 
 -- a flush was logged, and no read was asked for
 pub record LogsFlush (old new : DiskState) : Type 0 where
@@ -36,6 +33,11 @@ FlushesBoth a b old new old_second new_second (Ok done) = LogsFlush (a old) (a n
 FlushesBoth a b old new old_second new_second (Err failed) =
     (FailsInFlush (a old) (a new) × (new_second ≡ old_second))
     ⊎ (LogsFlush (a old) (a new) × FailsInFlush (b old_second) (b new_second))
+
+-- by whether the second failed last, the disk that did has counted it
+abbrev pub FailedLast : Bool → DiskState → DiskState → DiskState → DiskState → Type 0
+FailedLast false a new_a b new_b = Rose a.faults new_a.faults
+FailedLast true a new_a b new_b = Rose b.faults new_b.faults
 
 -- ---- what is logged
 

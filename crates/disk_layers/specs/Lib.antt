@@ -1,7 +1,12 @@
 pub mod Calls
 pub mod Concat
 pub mod ConcatDisk
+pub mod Covering
+pub mod Ever
+pub mod History
+pub mod Joined
 pub mod Names
 pub mod Parts
+pub mod Reported
 pub mod Waiting
 pub mod WriteBehind

@@ -5,9 +5,11 @@ use Rattle.block_traits.specs.declared.disk.DiskFailed.{DiskFailed}
 use Rattle.block_traits.specs.declared.disk.Event.TheVariants.{Flush}
 use Rattle.block_traits.specs.Causes.{Counted}
 use Rattle.block_traits.specs.Content.{Content, logged}
-use Rattle.block_traits.specs.Disk.{DiskState, FailsIn, Gives, Logs, untold}
+use Rattle.block_traits.specs.Disk.{DiskState, FailsIn, Gives, Logs}
 use Rattle.disk_layers.specs.declared.write_behind.Waiting.{Waiting}
 use Rattle.disk_layers.specs.declared.write_behind.WriteBehind.{WriteBehind}
+use Rattle.disk_layers.specs.History.{with_history}
+use Rattle.disk_layers.specs.Reported.{reported}
 use Rattle.disk_layers.specs.Waiting.{StopsIn, writes_of}
 
 -- what the disk below reports of itself, the writes that wait, the first one first, how many may wait, and whether no
@@ -125,6 +127,7 @@ module _ {D : Type 0} {g : Ghosts D} where
   abbrev pub behind_of : (D → DiskState) → WriteBehind D g → Behind
   behind_of state w = record { under = state w.under; waiting = w.waiting.items; room = w.room; clean = w.clean }
 
-  -- as a disk it has the size and the faults of the disk below, and reports no content
-  abbrev pub behind_disk_of : (D → DiskState) → WriteBehind D g → DiskState
-  behind_disk_of state w = untold (state w.under).size (state w.under).faults w.reads (state w.under).well_formed.bound
+  -- as a disk it has the size and the faults of the disk below, counts its own reads, and reports what was done to it
+  -- over what the disk below held at first, if that is reported
+  abbrev pub behind_disk_of : WriteBehind D g → DiskState
+  behind_disk_of w = reported (g.state w.under).size (g.state w.under).faults w.reads (with_history w.past.events (g.state w.under).content) (g.state w.under).well_formed.bound w.fits

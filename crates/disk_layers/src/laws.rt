@@ -1,10 +1,14 @@
 //! What holds of two disks as one and of writes that wait, whatever the disks below.
-ghost use Rattle.std.specs.Prelude.{◌≡◌, ◌+◌, ◌-◌, ◌<◌, ◌≤◌, ℕ, List, ◌++◌, Contains};
+ghost use Rattle.std.specs.Prelude.{◌≡◌, ◌+◌, ◌-◌, ◌<◌, ◌≤◌, ◌∷◌, [], ℕ, All, List, ◌++◌, Contains, take};
 ghost use Rattle.block_traits.specs.declared.disk.Event.{Event};
-ghost use Rattle.block_traits.specs.Content.{Content, kept_after, kept_values, logged, with_events};
+ghost use Rattle.block_traits.specs.declared.disk.Event.TheVariants.{Flush};
+ghost use Rattle.block_traits.specs.Content.{Content, IsEventOf, kept_after, kept_values, logged, with_events};
 ghost use Rattle.block_traits.specs.Disk.{DiskState};
 ghost use Rattle.disk_layers.specs.declared.write_behind.Waiting.{Waiting};
 ghost use Rattle.disk_layers.specs.Concat.{BothLog, first_events, second_events};
+ghost use Rattle.disk_layers.specs.Covering.{CoversContent, KeepsNoMore};
+ghost use Rattle.disk_layers.specs.History.{moved, unflushed};
+ghost use Rattle.disk_layers.specs.Joined.{CoversEach};
 ghost use Rattle.disk_layers.specs.Waiting.{writes_of};
 ghost use Rattle.disk_layers.specs.WriteBehind.{Behind, order};
 
@@ -34,4 +38,20 @@ pub fn values_kept_below_are_kept_in_order()
 pub fn orders_add_up()
     ensures { (events more : List Event) (old middle new : Behind) → order middle ≡ logged events (order old) →
         order new ≡ logged more (order middle) → order new ≡ logged (events ++ more) (order old) }
+{}
+
+/// While writes that wait are done below, one after the other, and then a flush, whatever a crash may leave below is among
+/// what it may leave of what was reported before.
+pub fn waiting_writes_are_covered_at_each_moment()
+    ensures { (c above : Content) (waiting : List Waiting) (count n : ℕ) → CoversContent (with_events (writes_of waiting) c) above →
+        KeepsNoMore (kept_values (with_events (take count (writes_of waiting ++ Flush ∷ [])) c) n) (kept_values above n) }
+{}
+
+/// If one of two disks that are one did some events and the other none, both are covered by what was reported before and
+/// the writes among them. So they are within a call too, whose events are those of the first, and then of the second.
+pub fn events_of_one_disk_are_covered()
+    ensures first { (size : ℕ) (events : List Event) (a b above : Content) → All (IsEventOf size) events → CoversEach size a b above →
+        CoversEach size (with_events events a) b (with_events (unflushed events) above) }
+    ensures second { (size : ℕ) (events : List Event) (a b above : Content) → CoversEach size a b above →
+        CoversEach size a (with_events events b) (with_events (moved size (unflushed events)) above) }
 {}

@@ -14,10 +14,17 @@
 ghost use Rattle.std.specs.Prelude.{◌≡◌, ◌<◌, ◌≤◌, ◌∷◌, [], IfOk, IfErr, OnOk, OnErr, false, length};
 ghost use Rattle.std.specs.VecDeque.{deque_len, deque_capacity};
 ghost use Rattle.block_traits.specs.Causes.{Counted, Rose};
-ghost use Rattle.block_traits.specs.Disk.{GivesFrom, Logs};
+ghost use Rattle.block_traits.specs.Disk.{FitsSize, GivesFrom, Logs};
 ghost use Rattle.block_traits.specs.Content.{logged};
+ghost use Rattle.disk_layers.specs.Covering.{CoversTold, CoversTold-prop};
+ghost use Rattle.disk_layers.specs.Ever.{EverBelow, EverTold-prop, noted_at};
+ghost use Rattle.disk_layers.specs.History.{with_history};
+ghost use Rattle.disk_layers.specs.Reported.{FitsSize-prop};
 ghost use Rattle.disk_layers.specs.Waiting.{FitBelow, FitBelow-prop, StopsIn, last_waiting, writes_of};
 
+use crate::history::History;
+use crate::moments::Moments;
+use crate::noting::{flushed, history_of, moments_of, moments_then, written};
 use block_traits::{Disk, DiskFailed, Event, NoMemory, Sector, sector_of};
 use std::alloc::Global;
 use std::collections::VecDeque;
@@ -30,7 +37,9 @@ pub struct Waiting {
     pub bytes: Sector,
 }
 
-/// A disk and writes that wait for it, in their order. As a disk it reports no content and shows no events.
+/// A disk and writes that wait for it, in their order. As a disk it shows no events, and reports what was done to it, if
+/// the disk below reports its content. Whatever a crash may leave below is among what it may leave of that (`covered`), at
+/// each moment of what was done below (`ever`).
 #[derive(Drop)]
 pub struct WriteBehind<D: Disk> {
     under: D,
@@ -38,15 +47,22 @@ pub struct WriteBehind<D: Disk> {
     room: u32,
     clean: bool,
     reads: u64,
+    past: History,
+    moments: Moments,
     ghost some: { 1 ≤ room },
     ghost small: { room ≤ 1024 },
     ghost within: { deque_len waiting ≤ room },
     ghost reserved: { room ≤ deque_capacity waiting },
     ghost fit: { FitBelow (D.state under).size waiting.items } by { FitBelow-prop (D.state under).size waiting.items },
+    ghost fits: { FitsSize (D.state under).size (with_history past.events (D.state under).content) } by { FitsSize-prop (D.state under).size (with_history past.events (D.state under).content) },
+    ghost covered: { CoversTold (logged (writes_of waiting.items) (D.state under).content) (with_history past.events (D.state under).content) } by { CoversTold-prop (logged (writes_of waiting.items) (D.state under).content) (with_history past.events (D.state under).content) },
+    ghost ever: { EverBelow (noted_at moments.noted) (D.state under).content (with_history past.events (D.state under).content) } by { EverTold-prop (λ n. Unit {0}) (λ n. n) (noted_at moments.noted) (D.state under).content (with_history past.events (D.state under).content) },
 }
 
 impl<D: Disk> WriteBehind<D> {
-    ghost use Rattle.disk_layers.specs.WriteBehind.{EndsAnswers, FlushAnswers, IsNew, BehindReadAnswers, BehindWriteAnswers, behind_of, order};
+    ghost use Rattle.block_traits.specs.Disk.{FailsIn, Gives};
+    ghost use Rattle.disk_layers.specs.WriteBehind.{EndsAnswers, FlushAnswers, IsNew, BehindReadAnswers, BehindWriteAnswers};
+    ghost use Rattle.disk_layers.specs.WriteBehind.{MakesRoom, PutsBehind, RefusesWrite, behind_disk_of, behind_of, order};
 
     /// A disk for which up to `room` writes may wait. If there is no memory for them, the disk comes back.
     pub fn new(alloc: Global, under: D, room: u32) -> Result<WriteBehind<D>, (D, NoMemory)>
@@ -55,8 +71,11 @@ impl<D: Disk> WriteBehind<D> {
         ensures under { IfOk result (λ behind. behind.under ≡ under) }
         ensures made { IfOk result (λ behind. IsNew (D.state under) room (behind_of D.state behind)) }
         ensures order { IfOk result (λ behind. order (behind_of D.state behind) ≡ (D.state under).content) }
+        ensures told { IfOk result (λ behind. (behind_disk_of behind).content ≡ (D.state under).content) }
         ensures back { IfErr result (λ refused. refused.0 ≡ under) }
     {
+        let past = history_of(&under);
+        let moments = moments_of(&past, &under);
         let Ok(waiting) = VecDeque::with_capacity(alloc, room as usize) else {
             return Err((under, NoMemory));
         };
@@ -66,6 +85,8 @@ impl<D: Disk> WriteBehind<D> {
             room,
             clean: true,
             reads: 0,
+            past,
+            moments,
         })
     }
 
@@ -76,6 +97,9 @@ impl<D: Disk> WriteBehind<D> {
         ensures answer { BehindReadAnswers (last_waiting n self.old.waiting.items) n into.new (behind_of D.state self.old) (behind_of D.state self.new) result }
         ensures gives { OnOk result (GivesFrom (order (behind_of D.state self.old)) n into.new) }
         ensures order { order (behind_of D.state self.new) ≡ order (behind_of D.state self.old) }
+        ensures bytes { OnOk result (Gives (behind_disk_of self.old) n into.new) }
+        ensures ok { OnOk result (Logs [] (behind_disk_of self.old) (behind_disk_of self.new)) }
+        ensures err { OnErr result (FailsIn [] (behind_disk_of self.old) (behind_disk_of self.new)) }
         ensures rose { OnErr result (Rose (D.state self.old.under).faults (D.state self.new.under).faults) }
         ensures asked { Counted 1 self.old.reads self.new.reads }
     {
@@ -100,14 +124,46 @@ impl<D: Disk> WriteBehind<D> {
         requires { n < (D.state self.old.under).size }
         ensures answer { BehindWriteAnswers (record { n = n; bytes = from.now }) (behind_of D.state self.old) (behind_of D.state self.new) result }
         ensures order { OnOk result (order (behind_of D.state self.new) ≡ logged (Event.Write n from.now ∷ []) (order (behind_of D.state self.old))) }
+        ensures ok { OnOk result (Logs (Event.Write n from.now ∷ []) (behind_disk_of self.old) (behind_disk_of self.new)) }
+        ensures err { OnErr result (FailsIn (Event.Write n from.now ∷ []) (behind_disk_of self.old) (behind_disk_of self.new)) }
         ensures rose { OnErr result (Rose (D.state self.old.under).faults (D.state self.new.under).faults) }
         ensures unasked { self.new.reads ≡ self.old.reads }
     {
         if self.waiting.len() == self.room as usize {
-            self.write_all()?;
+            return self.make_room_and_put(n, from);
         }
-        self.waiting.push_back_reserved(Waiting { n, bytes: *from });
+        self.put(n, from);
         Ok(())
+    }
+
+    // Writes all that wait below, and then adds a write.
+    fn make_room_and_put(&mut self, n: u64, from: &Sector) -> Result<(), DiskFailed>
+        requires { n < (D.state self.old.under).size }
+        ensures made { OnOk result (MakesRoom (record { n = n; bytes = from.now }) (behind_of D.state self.old) (behind_of D.state self.new)) }
+        ensures refused { OnErr result (RefusesWrite (behind_of D.state self.old) (behind_of D.state self.new)) }
+        ensures order { OnOk result (order (behind_of D.state self.new) ≡ logged (Event.Write n from.now ∷ []) (order (behind_of D.state self.old))) }
+        ensures ok { OnOk result (Logs (Event.Write n from.now ∷ []) (behind_disk_of self.old) (behind_disk_of self.new)) }
+        ensures err { OnErr result (FailsIn (Event.Write n from.now ∷ []) (behind_disk_of self.old) (behind_disk_of self.new)) }
+        ensures rose { OnErr result (Rose (D.state self.old.under).faults (D.state self.new.under).faults) }
+        ensures unasked { self.new.reads ≡ self.old.reads }
+    {
+        self.write_all()?;
+        self.put(n, from);
+        Ok(())
+    }
+
+    // Adds a write after those that wait, of which there are fewer than may.
+    fn put(&mut self, n: u64, from: &Sector)
+        requires inside { n < (D.state self.old.under).size }
+        requires room { deque_len self.old.waiting < self.old.room }
+        ensures puts { PutsBehind (record { n = n; bytes = from.now }) (behind_of D.state self.old) (behind_of D.state self.new) }
+        ensures order { order (behind_of D.state self.new) ≡ logged (Event.Write n from.now ∷ []) (order (behind_of D.state self.old)) }
+        ensures logs { Logs (Event.Write n from.now ∷ []) (behind_disk_of self.old) (behind_disk_of self.new) }
+        ensures unasked { self.new.reads ≡ self.old.reads }
+    {
+        self.waiting.push_back_reserved(Waiting { n, bytes: *from });
+        self.moments = moments_then(&self.moments, &self.past, &self.under);
+        self.past = written(&self.past, n, from);
     }
 
     /// Writes all that wait below, in their order, and then flushes below. `DiskFailed` is returned only if the disk
@@ -116,12 +172,18 @@ impl<D: Disk> WriteBehind<D> {
         ensures answer { FlushAnswers (behind_of D.state self.old) (behind_of D.state self.new) result }
         ensures order { OnOk result (order (behind_of D.state self.new) ≡ logged (Event.Flush ∷ []) (order (behind_of D.state self.old))) }
         ensures none { OnOk result (self.new.waiting.items ≡ []) }
+        ensures ok { OnOk result (Logs (Event.Flush ∷ []) (behind_disk_of self.old) (behind_disk_of self.new)) }
+        ensures err { OnErr result (FailsIn (Event.Flush ∷ []) (behind_disk_of self.old) (behind_disk_of self.new)) }
         ensures rose { OnErr result (Rose (D.state self.old.under).faults (D.state self.new.under).faults) }
         ensures unasked { self.new.reads ≡ self.old.reads }
     {
         self.write_all()?;
         match self.under.flush() {
-            Ok(()) => Ok(()),
+            Ok(()) => {
+                self.moments = moments_then(&self.moments, &self.past, &self.under);
+                self.past = flushed(&self.past);
+                Ok(())
+            }
             Err(failed) => {
                 self.clean = false;
                 Err(failed)
@@ -154,6 +216,8 @@ impl<D: Disk> WriteBehind<D> {
             room: _,
             clean: _,
             reads: _,
+            past: _,
+            moments: _,
         } = self;
         (under, answer)
     }
@@ -167,6 +231,7 @@ impl<D: Disk> WriteBehind<D> {
         ensures unclean { OnErr result (self.new.clean ≡ false) }
         ensures room { self.new.room ≡ self.old.room }
         ensures reads { self.new.reads ≡ self.old.reads }
+        ensures quiet { Logs [] (behind_disk_of self.old) (behind_disk_of self.new) }
         ensures unasked { (D.state self.new.under).reads ≡ (D.state self.old.under).reads }
     {
         match drain(&mut self.under, &mut self.waiting) {
@@ -212,7 +277,7 @@ fn last_of(waiting: &VecDeque<Waiting>, n: u64) -> Option<Sector>
     found
 }
 
-/// It reports the size and the faults of the disk below, and its own reads. Its calls are `read_at`, `write_at` and
+/// It reports the size and the faults of the disk below, its own reads, and what was done to it. Its calls are `read_at`, `write_at` and
 /// `flush_all`.
 impl<D: Disk> Disk for WriteBehind<D> {
     ghost use Rattle.std.specs.Prelude.{◌/◌, ◌%◌, ◌+◌};
@@ -221,18 +286,19 @@ impl<D: Disk> Disk for WriteBehind<D> {
     ghost use Rattle.block_traits.specs.Disk.{FailsIn, Gives, write_events};
     ghost use Rattle.block_traits.specs.Parts.{parts};
 
-    ghost state = { behind_disk_of D.state };
+    ghost state = { behind_disk_of };
+    ghost wants_room = { λ w. D.wants_room w.under };
 
     fn sectors(&self) -> u64 {
         self.under.sectors()
     }
 
     fn read(&mut self, n: u64, into: &mut Sector) -> Result<(), DiskFailed>
-        requires { n < (behind_disk_of D.state self.old).size }
-        ensures bytes { OnOk result (Gives (behind_disk_of D.state self.old) n into.new) }
-        ensures ok { OnOk result (Logs [] (behind_disk_of D.state self.old) (behind_disk_of D.state self.new)) }
-        ensures err { OnErr result (FailsIn [] (behind_disk_of D.state self.old) (behind_disk_of D.state self.new)) }
-        ensures asked { Counted 1 (behind_disk_of D.state self.old).reads (behind_disk_of D.state self.new).reads }
+        requires { n < (behind_disk_of self.old).size }
+        ensures bytes { OnOk result (Gives (behind_disk_of self.old) n into.new) }
+        ensures ok { OnOk result (Logs [] (behind_disk_of self.old) (behind_disk_of self.new)) }
+        ensures err { OnErr result (FailsIn [] (behind_disk_of self.old) (behind_disk_of self.new)) }
+        ensures asked { Counted 1 (behind_disk_of self.old).reads (behind_disk_of self.new).reads }
         ensures answer { BehindReadAnswers (last_waiting n self.old.waiting.items) n into.new (behind_of D.state self.old) (behind_of D.state self.new) result }
     {
         self.read_at(n, into)
@@ -241,17 +307,17 @@ impl<D: Disk> Disk for WriteBehind<D> {
     /// These reads are counted here alone, and nothing is done below.
     fn count_reads(&mut self, many: u64)
         ensures asked { Counted many self.old.reads self.new.reads }
-        ensures logs { Logs [] (behind_disk_of D.state self.old) (behind_disk_of D.state self.new) }
+        ensures logs { Logs [] (behind_disk_of self.old) (behind_disk_of self.new) }
         ensures stays { behind_of D.state self.new ≡ behind_of D.state self.old }
     {
         self.reads = self.reads.saturating_add(many);
     }
 
     fn write(&mut self, n: u64, from: &Sector) -> Result<(), DiskFailed>
-        requires { n < (behind_disk_of D.state self.old).size }
-        ensures ok { OnOk result (Logs (Event.Write n from.now ∷ []) (behind_disk_of D.state self.old) (behind_disk_of D.state self.new)) }
-        ensures err { OnErr result (FailsIn (Event.Write n from.now ∷ []) (behind_disk_of D.state self.old) (behind_disk_of D.state self.new)) }
-        ensures unasked { (behind_disk_of D.state self.new).reads ≡ (behind_disk_of D.state self.old).reads }
+        requires { n < (behind_disk_of self.old).size }
+        ensures ok { OnOk result (Logs (Event.Write n from.now ∷ []) (behind_disk_of self.old) (behind_disk_of self.new)) }
+        ensures err { OnErr result (FailsIn (Event.Write n from.now ∷ []) (behind_disk_of self.old) (behind_disk_of self.new)) }
+        ensures unasked { (behind_disk_of self.new).reads ≡ (behind_disk_of self.old).reads }
         ensures answer { BehindWriteAnswers (record { n = n; bytes = from.now }) (behind_of D.state self.old) (behind_of D.state self.new) result }
     {
         self.write_at(n, from)
@@ -260,10 +326,10 @@ impl<D: Disk> Disk for WriteBehind<D> {
     /// Each sector is written as by `write`, in ascending order, up to the first that fails.
     fn write_sectors(&mut self, first: u64, from: &[u8]) -> Result<(), DiskFailed>
         requires whole { length from.now % 512 ≡ 0 }
-        requires inside { first + length from.now / 512 ≤ (behind_disk_of D.state self.old).size }
-        ensures ok { OnOk result (Logs (write_events first from.now) (behind_disk_of D.state self.old) (behind_disk_of D.state self.new)) }
-        ensures err { OnErr result (FailsIn (write_events first from.now) (behind_disk_of D.state self.old) (behind_disk_of D.state self.new)) }
-        ensures unasked { (behind_disk_of D.state self.new).reads ≡ (behind_disk_of D.state self.old).reads }
+        requires inside { first + length from.now / 512 ≤ (behind_disk_of self.old).size }
+        ensures ok { OnOk result (Logs (write_events first from.now) (behind_disk_of self.old) (behind_disk_of self.new)) }
+        ensures err { OnErr result (FailsIn (write_events first from.now) (behind_disk_of self.old) (behind_disk_of self.new)) }
+        ensures unasked { (behind_disk_of self.new).reads ≡ (behind_disk_of self.old).reads }
         ensures answer { EachWritten BehindWritesSector first (parts 512 (length from.now / 512) from.now) (behind_of D.state self.old) (behind_of D.state self.new) result }
     {
         for j in 0..from.len() / 512 {
@@ -273,9 +339,9 @@ impl<D: Disk> Disk for WriteBehind<D> {
     }
 
     fn flush(&mut self) -> Result<(), DiskFailed>
-        ensures ok { OnOk result (Logs (Event.Flush ∷ []) (behind_disk_of D.state self.old) (behind_disk_of D.state self.new)) }
-        ensures err { OnErr result (FailsIn (Event.Flush ∷ []) (behind_disk_of D.state self.old) (behind_disk_of D.state self.new)) }
-        ensures unasked { (behind_disk_of D.state self.new).reads ≡ (behind_disk_of D.state self.old).reads }
+        ensures ok { OnOk result (Logs (Event.Flush ∷ []) (behind_disk_of self.old) (behind_disk_of self.new)) }
+        ensures err { OnErr result (FailsIn (Event.Flush ∷ []) (behind_disk_of self.old) (behind_disk_of self.new)) }
+        ensures unasked { (behind_disk_of self.new).reads ≡ (behind_disk_of self.old).reads }
         ensures answer { FlushAnswers (behind_of D.state self.old) (behind_of D.state self.new) result }
     {
         self.flush_all()
@@ -285,7 +351,8 @@ impl<D: Disk> Disk for WriteBehind<D> {
         None
     }
 
+    /// That of the disk below, whose last write that failed may be one that a flush made.
     fn wants_room(&self) -> bool {
-        false
+        self.under.wants_room()
     }
 }

@@ -10,6 +10,6 @@ use Rattle.geli_cases.specs.declared.run_disk.RunDisk.TheVariants.{Plain, Behind
 -- what the disk of its variant does
 abbrev pub run_disk_state : RunDisk → DiskState
 run_disk_state (Plain disk) = traced.traced_disk_of disk
-run_disk_state (Behind behind) = write_behind.behind_disk_of traced.traced_disk_of behind
+run_disk_state (Behind behind) = write_behind.behind_disk_of behind
 run_disk_state (Join both) = concat.concat_disk_of both
 run_disk_state (Provider upon) = provider_disk.provider_disk_of traced.traced_disk_of upon

@@ -1,12 +1,14 @@
 -- The disk of an image, from the disks of its files; what was asked if there was no memory; and what a run begins with.
 use Rattle.std.proofs.Common.{◌∙◌, ◌≡◌, ◌⊎◌, inl, inr, refl, subst, sym, ap, ℕ, suc, ◌+◌, ◌<◌, List, [], ◌∷◌, ◌++◌, length, Bool, Option, Result}
-use Rattle.std.proofs.Common.{Ok, Err, OnErr, drop, get_or, le_refl, map, take, take_all}
+use Rattle.std.proofs.Common.{IfOk, None, Ok, Err, OnErr, drop, get_or, le_refl, map, take, take_all}
 use Rattle.std.proofs.lemmas.List.{map-append, map_more, take-append-drop}
 use Rattle.block_traits.specs.declared.disk.Disk.{Ghosts}
 use Rattle.file_edge.specs.Asked.{Asked}
-use Rattle.file_edge.specs.FileDisk.{AsksDisk}
+use Rattle.block_traits.specs.declared.faults.NoMemory.{NoMemory}
+use Rattle.file_edge.specs.FileDisk.{AsksDisk, IsUnopened, TellsFile}
 use Rattle.file_edge.specs.Names.{IsRandom, NamedFiles}
 use Rattle.file_edge.specs.RandomFile.{left_in}
+use Rattle.file_edge.specs.Told.{Told, contents, of_size, told_in}
 use Rattle.file_edge.specs.declared.file_disk.FileDisk.{FileDisk}
 use Rattle.file_edge.specs.declared.found.FileId.{FileId}
 use Rattle.file_edge.specs.declared.image_file.ImageFile as image_file
@@ -14,7 +16,27 @@ use Rattle.file_edge.specs.declared.opener.Opener as opener
 use Rattle.file_edge.specs.declared.random_file.RandomFile.{RandomFile}
 use Rattle.image_layers.specs.declared.image_disks.ImageDisk.{ImageDisk}
 use Rattle.image_layers.specs.declared.image_disks.ImageDisk.TheVariants.{Plain, Behind, Join}
-use Rattle.image_layers.specs.Images.{AsksFiles, AsksFor, AsksPart, AsksUpTo, IsBehindOf, IsJoinOf, IsPlain, JoinsOrIsNone, Opening, OpensBoth, OpensImageDisk, OpensImages, OpensJoin, OpensNamed}
+use Rattle.image_layers.specs.Images.{AsksFiles, AsksFor, AsksPart, AsksUpTo, IsBehindOf, IsJoinOf, IsPlain, JoinsOrIsNone, Opening, OpensBoth, OpensImageDisk, OpensImages, OpensJoin, OpensNamed, TellsImage, WaitsFor}
+
+-- ---- what is reported
+
+-- a disk of no file reports nothing
+tells_unopened : {F : Type 0} (told : F → Option Told) (id : Option FileId) (disk : FileDisk F) → IsUnopened id disk → TellsFile told disk
+tells_unopened {F} told id disk is =
+    let none : contents (told_in told disk.file) ≡ None = ap (λ (f : Option F). contents (told_in told f)) is.file in
+    ap (of_size disk.sectors) none ∙ sym none
+
+module _ {F : Type 0} {g : Ghosts (FileDisk F)} (told : F → Option Told) where
+  pub tells_behind : (disk : FileDisk F) (result : Result (ImageDisk F g) NoMemory) → IfOk result (WaitsFor disk) → TellsFile told disk → IfOk result (TellsImage told)
+  tells_behind disk (Ok (Behind behind)) waits tells = (subst (TellsFile told) (sym waits.0) tells, waits.4)
+  tells_behind disk (Ok (Plain other)) waits tells = absurd waits
+  tells_behind disk (Ok (Join both)) waits tells = absurd waits
+  tells_behind disk (Err fault) waits tells = tt
+
+  pub tells_join : (first second : FileDisk F) (image : ImageDisk F g) → JoinsOrIsNone first second image → TellsFile told first → TellsFile told second → TellsImage told image
+  tells_join first second (Join both) joins one other = (subst (TellsFile told) (sym joins.0) one, subst (TellsFile told) (sym joins.1) other, joins.2)
+  tells_join first second (Plain disk) joins one other = tells_unopened told None disk joins.1
+  tells_join first second (Behind behind) joins one other = absurd joins
 
 -- the files of an image that was opened
 record Asks {O : Type 0} (log_of : O → Option (List Asked)) (changes : Bool) (name : List ℕ) (old new : O) : Type 0 where

@@ -4,8 +4,10 @@ use Rattle.block_traits.specs.Content.{Content}
 use Rattle.block_traits.specs.Disk.{DiskState}
 use Rattle.block_traits.specs.declared.disk.Disk.{Ghosts}
 use Rattle.disk_layers.specs.ConcatDisk as concat
+use Rattle.disk_layers.specs.Joined.{joined_content, joined_history}
 use Rattle.disk_layers.specs.Names.{IsBehind, IsJoin}
 use Rattle.disk_layers.specs.WriteBehind as write_behind
+use Rattle.disk_layers.specs.declared.concat.Concat.{Concat}
 use Rattle.file_edge.specs.Asked.{Asked}
 use Rattle.file_edge.specs.FileDisk.{AsksDisk, IsUnopened, OpensDisk, TellsFile}
 use Rattle.file_edge.specs.Names.{IsRandom}
@@ -51,39 +53,51 @@ module _ {F : Type 0} {g : Ghosts (FileDisk F)} where
   -- what the disk of an image reports of itself
   abbrev pub image_disk_state : ImageDisk F g → DiskState
   image_disk_state (Plain disk) = g.state disk
-  image_disk_state (Behind behind) = write_behind.behind_disk_of g.state behind
+  image_disk_state (Behind behind) = write_behind.behind_disk_of behind
   image_disk_state (Join both) = concat.concat_disk_of both
 
-  -- whether room was wanting at the last failed write of the disk of a file alone; a layer doesn't say
+  -- whether room was wanting at the last write that failed: in the one file, or in that of two which failed
   abbrev pub image_wants_room : ImageDisk F g → Bool
   image_wants_room (Plain disk) = g.wants_room disk
-  image_wants_room (Behind behind) = false
-  image_wants_room (Join both) = false
+  image_wants_room (Behind behind) = g.wants_room behind.under
+  image_wants_room (Join both) = concat.wants_room_of both
 
-  -- a disk for which 256 writes may wait, and none does; no call below was refused
+  -- a disk for which 256 writes may wait, and none does; no call below was refused; what it reports is what the disk
+  -- below does
   abbrev pub WaitsFor : FileDisk F → ImageDisk F g → Type 0
-  WaitsFor disk (Behind behind) = (behind.under ≡ disk) × (length behind.waiting.items ≡ 0) × (behind.room ≡ 256) × (behind.clean ≡ true)
+  WaitsFor disk (Behind behind) =
+      (behind.under ≡ disk) × (length behind.waiting.items ≡ 0) × (behind.room ≡ 256) × (behind.clean ≡ true) × ((write_behind.behind_disk_of behind).content ≡ (g.state behind.under).content)
   WaitsFor disk (Plain other) = ⊥
   WaitsFor disk (Join both) = ⊥
 
+  -- what two disks that were just made one report is what both do
+  abbrev pub IsJoinedNew : Concat (FileDisk F) (FileDisk F) g g → Type 0
+  IsJoinedNew both =
+      (concat.concat_disk_of both).content ≡ joined_content (joined_history (g.state both.first).size (g.state both.first).content (g.state both.second).content) (g.state both.first).content (g.state both.second).content
+
   -- both disks as one, or, if they are too large for that, a disk of no file
   abbrev pub JoinsOrIsNone : FileDisk F → FileDisk F → ImageDisk F g → Type 0
-  JoinsOrIsNone first second (Join both) = (both.first ≡ first) × (both.second ≡ second)
+  JoinsOrIsNone first second (Join both) = (both.first ≡ first) × (both.second ≡ second) × IsJoinedNew both
   JoinsOrIsNone first second (Plain disk) = (2 ^ 44 ≤ (g.state first).size + (g.state second).size) × IsUnopened None disk
   JoinsOrIsNone first second (Behind behind) = ⊥
 
-  -- the disk of a file alone reports all that its file reports
+  -- the disk reports all that its files report: that of one file what the file reports, that of two what both do
   abbrev pub TellsImage : (F → Option Told) → ImageDisk F g → Type 0
   TellsImage told (Plain disk) = TellsFile told disk
-  TellsImage told (Behind behind) = Unit {0}
-  TellsImage told (Join both) = Unit {0}
+  TellsImage told (Behind behind) = TellsFile told behind.under × ((write_behind.behind_disk_of behind).content ≡ (g.state behind.under).content)
+  TellsImage told (Join both) = TellsFile told both.first × TellsFile told both.second × IsJoinedNew both
 
 module _ {F : Type 0} {g : Ghosts (FileDisk F)} (told : F → Option Told) where
-  -- this holds of what the file of a disk reports, if it is the disk of a file alone, and the file reports its sectors
-  abbrev pub IfFileTells : ImageDisk F g → (Content → Type 0) → Type 0
-  IfFileTells (Plain disk) P = IfSome (contents (told_in told disk.file)) P
-  IfFileTells (Behind behind) P = Unit {0}
-  IfFileTells (Join both) P = Unit {0}
+  -- what the files of a disk report: the content of the one file, or of the first and then the second
+  abbrev pub told_in_files : ImageDisk F g → Option Content
+  told_in_files (Plain disk) = contents (told_in told disk.file)
+  told_in_files (Behind behind) = contents (told_in told behind.under.file)
+  told_in_files (Join both) =
+      joined_content (joined_history (g.state both.first).size (contents (told_in told both.first.file)) (contents (told_in told both.second.file))) (contents (told_in told both.first.file)) (contents (told_in told both.second.file))
+
+  -- this holds of what the files of a disk report, if they report their sectors
+  abbrev pub IfFilesTell : ImageDisk F g → (Content → Type 0) → Type 0
+  IfFilesTell disk P = IfSome (told_in_files disk) P
 
 -- ---- openings
 

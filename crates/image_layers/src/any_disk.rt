@@ -50,7 +50,7 @@ impl<F: ImageFile + Drop> Disk for ImageDisk<F> {
     {
         match self {
             ImageDisk::Plain(disk) => disk.peek(first, into),
-            // A layer reports no content, and lets nothing be looked at.
+            // A layer lets nothing be looked at.
             ImageDisk::Behind(_) | ImageDisk::Join(_) => false,
         }
     }
@@ -126,7 +126,8 @@ impl<F: ImageFile + Drop> Disk for ImageDisk<F> {
     fn wants_room(&self) -> bool {
         match self {
             ImageDisk::Plain(disk) => disk.wants_room(),
-            ImageDisk::Join(_) | ImageDisk::Behind(_) => false,
+            ImageDisk::Behind(disk) => disk.wants_room(),
+            ImageDisk::Join(disk) => disk.wants_room(),
         }
     }
 }

@@ -95,6 +95,7 @@ fn open_both<O: Opener>(
     ensures opens { IfOk result (λ both. OpensBoth (⟦<O as Opener>⟧) (⟦<O::File as ImageFile>⟧)
         changes first.now second.now both.0 both.1
         (opening opener.old files.old.items) (opening opener.new files.new.items)) }
+    ensures tells { IfOk result (λ both. TellsFile O.File.told both.0 × TellsFile O.File.told both.1) }
     ensures told { O.told opener.new ≡ O.told opener.old }
     ensures asked_part { OnErr result (AsksFiles O.asked changes (first.now ∷ []) opener.old opener.new
         ⊎ AsksFiles O.asked changes (first.now ∷ second.now ∷ []) opener.old opener.new) }

@@ -1,4 +1,5 @@
 mod Ended
+mod FromFiles
 mod Images
 mod Saying
 mod Surviving

@@ -17,9 +17,10 @@ use Rattle.geli_core.specs.Survivors.{EnduresCrashes, SurvivesBy}
 use Rattle.geli_core.specs.Trace.{EachLine, ServedLine}
 use Rattle.geli_core.specs.Vocabulary.{Play, Sep}
 use Rattle.run_status.specs.declared.status.Status.{Status}
-use Rattle.image_layers.specs.Images.{IfFileTells, TellsImage, image_disk_state}
+use Rattle.image_layers.proofs.Covered.{covered, tells_files}
+use Rattle.image_layers.specs.Images.{IfFilesTell, TellsImage, image_disk_state, told_in_files}
 use Rattle.image_layers.specs.declared.image_disks.ImageDisk.{ImageDisk}
-use Rattle.image_layers.specs.declared.image_disks.ImageDisk.TheVariants.{Plain, Behind, Join}
+use Rattle.image_run.proofs.FromFiles.{in_files}
 use Rattle.image_run.specs.Surviving.{SurviveEachLine, SurviveInFiles, SurvivesInFile}
 use Rattle.readings.specs.Steps.{Step, after}
 
@@ -57,13 +58,11 @@ module _ {F : Type 0} {g : Ghosts (FileDisk F)} (told : F → Option Told) where
       let r = is_of names disks drawer place (λ i d inside. tell (suc i) d (omega (arith, inside))) found in
       record { place = suc r.place; disk = r.disk; named = r.named; opened = r.opened; state = r.state; telling = r.telling }
 
-  in_file : (same : (d : FileDisk F) → (g.state d).content ≡ (file.file_disk_state told d).content) (disk : ImageDisk F g) (now : Option Content) (steps : List Step) → TellsImage told disk
-      → now ≡ option_map (after steps) (image_disk_state disk).content → IfSome (image_disk_state disk).content (EnduresCrashes steps) → IfFileTells told disk (λ c. (now ≡ Some (after steps c)) × EnduresCrashes steps c)
-  in_file same (Plain disk) now steps tells grew endures =
+  in_file : (disk : ImageDisk F g) (now : Option Content) (steps : List Step) → (image_disk_state disk).content ≡ told_in_files told disk
+      → now ≡ option_map (after steps) (image_disk_state disk).content → IfSome (image_disk_state disk).content (EnduresCrashes steps) → IfFilesTell told disk (λ c. (now ≡ Some (after steps c)) × EnduresCrashes steps c)
+  in_file disk now steps tells grew endures =
       let P : Option Content → Type 0 = λ k. IfSome k (λ c. (now ≡ Some (after steps c)) × EnduresCrashes steps c) in
-      subst P (same disk ∙ tells) (grown (g.state disk).content now steps grew endures)
-  in_file same (Behind behind) now steps tells grew endures = tt
-  in_file same (Join both) now steps tells grew endures = tt
+      subst P tells (grown (image_disk_state disk).content now steps grew endures)
 
   module _ (same : (d : FileDisk F) → (g.state d).content ≡ (file.file_disk_state told d).content) (names : List (List ℕ)) (disks : List (ImageDisk F g)) (tell : All (TellsImage told) disks) where
     -- a drawer that did steps since it lay idle did them in the file of its image
@@ -72,13 +71,16 @@ module _ {F : Type 0} {g : Ghosts (FileDisk F)} (told : F → Option Told) where
     by_steps Plays drawer survives =
         let r = is_of names disks survives.before survives.was.0 tell survives.was.1 in
         let content = ap (λ s. s.content) r.state in
+        let grew = in_file r.disk drawer.disk.content survives.play.steps (tells_files told same r.disk r.telling) (survives.content ∙ ap (option_map (after survives.play.steps)) (sym content))
+            (subst (λ (k : Option Content). IfSome k (EnduresCrashes survives.play.steps)) (sym content) survives.endures) in
         record {
           place = r.place;
           disk = r.disk;
           named = r.named ∙ ap Some (sym survives.name);
           opened = r.opened;
-          in_file = in_file same r.disk drawer.disk.content survives.play.steps r.telling (survives.content ∙ ap (option_map (after survives.play.steps)) (sym content))
-              (subst (λ (k : Option Content). IfSome k (EnduresCrashes survives.play.steps)) (sym content) survives.endures);
+          in_file = grew;
+          covered = λ disk is. covered told same disk;
+          in_files = in_files told r.disk drawer.disk survives.play.steps grew (λ disk is. covered told same disk);
         }
 
     each_line : (sep : Sep) (cabinet : CabinetState) (entropy : EntropyState) (served : List ServedLine) (start : World) (lines : List ServedLine)

@@ -40,7 +40,7 @@ module _ {O F : Type 0} (g : Ghosts (FileDisk F)) (o : opener.Ghosts O F) (f : i
 
   -- The words were run over the images that they name. What opens files opened just these and the random bytes. All
   -- that is said of runs holds of the run of the words over drawers with those names, in which just the disks of these
-  -- images lay, to the drawers that are left. The disk of a file alone reports what its file reports. The cabinet has
+  -- images lay, to the drawers that are left. Each disk reports what its files report. The cabinet has
   -- the files that were reported of the names, but for these images. The random bytes are those that were reported. Of
   -- neither anything was asked before; after the run they are those that are left. `survives`: whatever a power failure
   -- leaves in the file of an image alone that reports its sectors, at any moment of the run, reads as promised, from

@@ -11,9 +11,9 @@ use Rattle.command_rows.specs.Vocabulary.{IsKeying}
 use Rattle.file_edge.specs.FileDisk as file
 use Rattle.file_edge.specs.Told.{Told}
 use Rattle.file_edge.specs.declared.file_disk.FileDisk.{FileDisk}
-use Rattle.image_layers.specs.Images.{IfFileTells, TellsImage, image_disk_state}
+use Rattle.image_layers.proofs.Covered.{tells_files}
+use Rattle.image_layers.specs.Images.{IfFilesTell, TellsImage, image_disk_state}
 use Rattle.image_layers.specs.declared.image_disks.ImageDisk.{ImageDisk}
-use Rattle.image_layers.specs.declared.image_disks.ImageDisk.TheVariants.{Plain, Behind, Join}
 use Rattle.nbd_session.proofs.Durable.{session-survives}
 use Rattle.nbd_session.proofs.Lasting.{closed_survives}
 use Rattle.nbd_session.specs.Requests.{Exchange, Side, ServesExchanges}
@@ -32,11 +32,9 @@ where_told None side source rest sink after status old new is told e = tt
 where_told (Some c) side source rest sink after status old new is told e =
     by_flush e.flushed side e.session.talks.talk.exchanges old e.session.last new c is told e.session.talks.served e.session.closed
 
--- what the file reported when it was opened is what the disk reported when it was attached
+-- what the files reported when they were opened is what the disk reported when it was attached
 pub endures : {F : Type 0} {g : Ghosts (FileDisk F)} (told : F → Option Told) (same : (d : FileDisk F) → (g.state d).content ≡ (file.file_disk_state told d).content)
     (disk : ImageDisk F g) (side : Side) (source rest : SourceState) (sink after : SinkState) (status : Status) (old new : DiskState) → IsKeying side.keying → TellsImage told disk → Logs [] (image_disk_state disk) old
-    → (e : EndsWith side source rest sink after status old new) → IfFileTells told disk (EnduresSession side source rest sink after status old new e)
-endures {F} {g} told same (Plain disk) side source rest sink after status old new is tells quiet e =
-    where_told _ side source rest sink after status old new is (quiet.content ∙ logged-none (g.state disk).content ∙ same disk ∙ tells) e
-endures told same (Behind behind) side source rest sink after status old new is tells quiet e = tt
-endures told same (Join both) side source rest sink after status old new is tells quiet e = tt
+    → (e : EndsWith side source rest sink after status old new) → IfFilesTell told disk (EnduresSession side source rest sink after status old new e)
+endures told same disk side source rest sink after status old new is tells quiet e =
+    where_told _ side source rest sink after status old new is (quiet.content ∙ logged-none (image_disk_state disk).content ∙ tells_files told same disk tells) e

@@ -18,6 +18,7 @@ use Rattle.file_edge.specs.declared.found.FileId.{FileId}
 use Rattle.file_edge.specs.declared.image_file.ImageFile as image_file
 use Rattle.file_edge.specs.declared.opener.Opener as opener
 use Rattle.file_edge.specs.declared.random_file.RandomFile.{RandomFile}
+use Rattle.image_layers.proofs.Covered.{covered}
 use Rattle.image_layers.proofs.Images.{opened_told}
 use Rattle.image_layers.specs.Images.{OpensNamed, TellsImage, image_disk_state}
 use Rattle.image_layers.specs.declared.image_disks.ImageDisk.{ImageDisk}
@@ -95,5 +96,6 @@ module _ {O F : Type 0} {g : Ghosts (FileDisk F)} (o : opener.Ghosts O F) (f : i
         outcome = inr (record {
           served = record { attachment = h.attachment; middle = h.middle; row = from_told answers.Done reached h.row; keying = h.keying; ends = h.ends; log = h.log };
           endures = endures f.told same disk (side_in h.attachment) source rest sink after status h.middle d h.keying tells quiet h.ends;
+          covered = λ disk is. covered f.told same disk;
         });
       }

@@ -22,7 +22,8 @@ use Rattle.file_edge.specs.declared.found.FileId.{FileId}
 use Rattle.file_edge.specs.declared.image_file.ImageFile as image_file
 use Rattle.file_edge.specs.declared.opener.Opener as opener
 use Rattle.file_edge.specs.declared.random_file.RandomFile.{RandomFile}
-use Rattle.image_layers.specs.Images.{AsksPart, IfFileTells, OpensNamed, TellsImage, image_disk_state}
+use Rattle.image_layers.specs.Images.{AsksPart, IfFilesTell, OpensNamed, TellsImage, image_disk_state}
+use Rattle.image_layers.specs.InFiles.{AreCovered}
 use Rattle.image_layers.specs.declared.image_disks.ImageDisk.{ImageDisk}
 use Rattle.nbd_negotiation.specs.declared.streams.End.{End}
 use Rattle.nbd_session.specs.Durable.{Survives}
@@ -162,7 +163,7 @@ AreWiped rooms =
 
 module _ {O F : Type 0} (g : Ghosts (FileDisk F)) (o : opener.Ghosts O F) (f : image_file.Ghosts F) where
   -- The words are those of `geli attach` for one image. That was opened, to be changed unless it attaches read-only,
-  -- and then the random bytes; nothing else was asked. The disk of a file alone reports what its file reports.
+  -- and then the random bytes; nothing else was asked. The disk reports what its files report.
   pub record OpensAsked (words : List (List ℕ)) (opener : O) : Type 0 where
     pub name : List ℕ
     pub line : List ℕ
@@ -181,11 +182,13 @@ module _ {O F : Type 0} (g : Ghosts (FileDisk F)) (o : opener.Ghosts O F) (f : i
   abbrev pub begins : {words : List (List ℕ)} {opener : O} → OpensAsked words opener → Reach
   begins {words} {opener} h = reach_of (image_disk_state h.disk) Idle (new_cabinet h.files (o.told opener)) (new_entropy (left_in f.left h.random.device))
 
-  -- A client was served. If the disk was opened on a file alone that reported its content then, that content grew by
-  -- just the events of what the client asked for, and endures crashes.
+  -- A client was served. If the disk was opened on files that reported their content then, what it reports grew by just
+  -- the events of what the client asked for, and endures crashes. `covered`: what a crash leaves of the files is what it
+  -- may leave of that.
   pub record ServesInFile {words : List (List ℕ)} {opener : O} (h : OpensAsked words opener) (old : Streams) (status : Status) (left : Remains) (new : Streams) : Type 0 where
     pub served : ServesAttached h.line h.command (begins h) old status left new
-    pub endures : IfFileTells f.told h.disk (EnduresSession (side_in served.attachment) old.source new.source old.sink new.sink status served.middle left.disk served.ends)
+    pub endures : IfFilesTell f.told h.disk (EnduresSession (side_in served.attachment) old.source new.source old.sink new.sink status served.middle left.disk served.ends)
+    pub covered : AreCovered g f.told left.disk
 
   -- An image was opened, and its provider wasn't attached, or was and was served.
   pub record ServesImage (words : List (List ℕ)) (opener : O) (old : Streams) (status : Status) (left : Remains) (new : Streams) : Type 0 where

@@ -1,5 +1,5 @@
 use Rattle.image_layers.specs.Images.{opening}
-use Rattle.image_layers.proofs.Images.{any_refusal, join_asked, joined, plain_asked, rest_asked}
+use Rattle.image_layers.proofs.Images.{any_refusal, join_asked, joined, plain_asked, rest_asked, tells_behind, tells_join}
 use Rattle.image_layers.proofs.image_disks.open_image.Goals as goal
 
 pub returns-in-Err-clause-asked_part : goal.returns-in-Err-clause-asked_part
@@ -21,3 +21,11 @@ returns-in-Ok-open_both-clause-opens g c =
 pub returns-in-Err-open_both-clause-asked_part : goal.returns-in-Err-open_both-clause-asked_part
 returns-in-Err-open_both-clause-asked_part g c =
     join_asked g.O.Opener.asked c.args.changes c.args.name.now c.in-Join.first.now c.in-Join.second.now c.args.opener.now c.open_both.new.opener c.in-Join.ensures c.in-Err-open_both.ensures.asked_part
+
+pub returns-in-Ok-open_named-clause-tells : goal.returns-in-Ok-open_named-clause-tells
+returns-in-Ok-open_named-clause-tells g c =
+    tells_behind g.O.File.ImageFile.told c.in-Ok-open_named.disk c.wait_for.result c.wait_for.ensures c.in-Ok-open_named.ensures.tells
+
+pub returns-in-Ok-open_both-clause-tells : goal.returns-in-Ok-open_both-clause-tells
+returns-in-Ok-open_both-clause-tells g c =
+    tells_join g.O.File.ImageFile.told c.in-Ok-open_both.first c.in-Ok-open_both.second c.join.result c.join.ensures c.in-Ok-open_both.ensures.tells.0 c.in-Ok-open_both.ensures.tells.1

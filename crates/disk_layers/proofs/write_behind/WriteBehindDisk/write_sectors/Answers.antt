@@ -12,7 +12,7 @@ use Rattle.disk_layers.proofs.write_behind.WriteBehindDisk.write_sectors.Goals a
 
 pub loop-j-init : goal.loop-j-init
 loop-j-init g c =
-    let start = behind_disk_of g.D.Disk.state c.args.self.now in
+    let start = behind_disk_of c.args.self.now in
     let all = write_events c.args.first c.args.from.now in
     let P : List Event → Type 0 = λ events. Continues events all start start in
     record {
@@ -26,7 +26,7 @@ pub returns-in_err-write-clause-err : goal.returns-in_err-write-clause-err
 returns-in_err-write-clause-err g c =
     let all = write_events c.args.first c.args.from.now in
     let left = writes_left c.args.first c.args.from.now (c.loop-j.j + 1) in
-    let P : List Event → Type 0 = λ events. Continues events all (behind_disk_of g.D.Disk.state c.loop-j.self) (behind_disk_of g.D.Disk.state c.args.self.now) in
+    let P : List Event → Type 0 = λ events. Continues events all (behind_disk_of c.loop-j.self) (behind_disk_of c.args.self.now) in
     let here = subst P (writes_left-next c.args.first c.args.from.now c.sector_of.result c.loop-j.j c.loop-j-test.true c.sector_of.ensures) c.loop-j.invariant.events in
     let fails = FailsIn-part (Write (c.args.first + c.loop-j.j) c.sector_of.result ∷ []) left all here c.in_err-write.ensures.err in
     search rules
@@ -41,7 +41,7 @@ pub loop-j-preserved : goal.loop-j-preserved
 loop-j-preserved g c =
     let all = write_events c.args.first c.args.from.now in
     let left = writes_left c.args.first c.args.from.now (c.loop-j.j + 1) in
-    let P : List Event → Type 0 = λ events. Continues events all (behind_disk_of g.D.Disk.state c.loop-j.self) (behind_disk_of g.D.Disk.state c.args.self.now) in
+    let P : List Event → Type 0 = λ events. Continues events all (behind_disk_of c.loop-j.self) (behind_disk_of c.args.self.now) in
     let here = subst P (writes_left-next c.args.first c.args.from.now c.sector_of.result c.loop-j.j c.loop-j-test.true c.sector_of.ensures) c.loop-j.invariant.events in
     record {
       size = c.in_ok-write.ensures.ok.size ∙ c.loop-j.invariant.size;
@@ -53,7 +53,7 @@ loop-j-preserved g c =
 pub returns-clause-ok : goal.returns-clause-ok
 returns-clause-ok g c =
     let all = write_events c.args.first c.args.from.now in
-    let P : List Event → Type 0 = λ events. Continues events all (behind_disk_of g.D.Disk.state c.loop-j.self) (behind_disk_of g.D.Disk.state c.args.self.now) in
+    let P : List Event → Type 0 = λ events. Continues events all (behind_disk_of c.loop-j.self) (behind_disk_of c.args.self.now) in
     Continues-end all (subst P (writes_left-end c.args.first c.args.from.now c.loop-j.j c.loop-j-test.false) c.loop-j.invariant.events)
 
 pub returns-clause-answer : goal.returns-clause-answer

@@ -8,8 +8,8 @@ use Rattle.disk_layers.proofs.write_behind.WriteBehindDisk.write_sectors.Given a
 
 abbrev pub invariant-loop-j : goal.invariant-loop-j
 invariant-loop-j g l = record {
-  size : (behind_disk_of g.D.Disk.state l.self).size ≡ (behind_disk_of g.D.Disk.state l.initial.self).size;
-  unasked : (behind_disk_of g.D.Disk.state l.self).reads ≡ (behind_disk_of g.D.Disk.state l.initial.self).reads;
-  events : Continues (writes_left l.first l.from l.j) (write_events l.first l.from) (behind_disk_of g.D.Disk.state l.self) (behind_disk_of g.D.Disk.state l.initial.self);
+  size : (behind_disk_of l.self).size ≡ (behind_disk_of l.initial.self).size;
+  unasked : (behind_disk_of l.self).reads ≡ (behind_disk_of l.initial.self).reads;
+  events : Continues (writes_left l.first l.from l.j) (write_events l.first l.from) (behind_disk_of l.self) (behind_disk_of l.initial.self);
   goes : Goes BehindWritesSector l.first l.from l.j (behind_of g.D.Disk.state l.self) (behind_of g.D.Disk.state l.initial.self);
 }

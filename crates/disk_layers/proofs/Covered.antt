@@ -205,7 +205,7 @@ within_through below middle above one two =
 pub within_itself : (values : List (List ℕ)) → KeepsNoMore values values
 within_itself values = within_covers values values (covers_itself values)
 
-pub within_written : (here : Bool) (values : List (List ℕ)) (value : List ℕ) → KeepsNoMore values (cond here (values ++ value ∷ []) values)
+within_written : (here : Bool) (values : List (List ℕ)) (value : List ℕ) → KeepsNoMore values (cond here (values ++ value ∷ []) values)
 within_written true values value =
     let P : List ℕ → Type 0 = λ v. IsTrue (is_one_of values v) in
     let Q : List ℕ → Type 0 = λ v. IsTrue (is_one_of (values ++ value ∷ []) v) in
@@ -216,7 +216,7 @@ within_written true values value =
 within_written false values value = within_itself values
 
 -- more writes
-pub within_writes : (waiting : List Waiting) (n : ℕ) (values : List (List ℕ)) → KeepsNoMore values (kept_after (writes_of waiting) n values)
+within_writes : (waiting : List Waiting) (n : ℕ) (values : List (List ℕ)) → KeepsNoMore values (kept_after (writes_of waiting) n values)
 within_writes [] n values = within_itself values
 within_writes (write ∷ waiting) n values =
     let next : List (List ℕ) = cond (write.n == n) (values ++ write.bytes ∷ []) values in

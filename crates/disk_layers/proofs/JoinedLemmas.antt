@@ -19,7 +19,7 @@ use Rattle.disk_layers.proofs.Covered.{covers_events, covers_itself, covers_unfl
 -- ---- writes alone
 
 -- no flush
-unfoldable pub AreWrites : List Event → Type 0
+pub AreWrites : List Event → Type 0
 AreWrites [] = Unit {0}
 AreWrites (Write n bytes ∷ events) = AreWrites events
 AreWrites (Flush ∷ events) = ⊥
@@ -93,7 +93,7 @@ seen old new = drop (length (told_history old)) (told_history new)
 seen-logged : (events : List Event) (c : Content) → seen (Some c) (Some (with_events events c)) ≡ events
 seen-logged events c = drop_at c.history events (length c.history) refl
 
-pub joined-more : (past events : List Event) (a b : Option Content) → joined_content (past ++ events) a b ≡ logged events (joined_content past a b)
+joined-more : (past events : List Event) (a b : Option Content) → joined_content (past ++ events) a b ≡ logged events (joined_content past a b)
 joined-more past events None b = refl
 joined-more past events (Some a) None = refl
 joined-more past events (Some a) (Some b) = refl
@@ -109,12 +109,12 @@ joined-second past events None b = refl
 joined-second past events (Some a) None = refl
 joined-second past events (Some a) (Some b) = refl
 
-pub first-now : (past events : List Event) (a b : Option Content) → joined_content (past ++ unflushed (seen a (logged events a))) (logged events a) b ≡ logged (unflushed events) (joined_content past a b)
+first-now : (past events : List Event) (a b : Option Content) → joined_content (past ++ unflushed (seen a (logged events a))) (logged events a) b ≡ logged (unflushed events) (joined_content past a b)
 first-now past events None b = refl
 first-now past events (Some a) None = refl
 first-now past events (Some a) (Some b) = ap (λ (l : List Event). joined_content (past ++ unflushed l) (Some a) (Some b)) (seen-logged events a)
 
-pub second-now : (size : ℕ) (past events : List Event) (a b : Option Content) → joined_content (past ++ moved size (unflushed (seen b (logged events b)))) a (logged events b) ≡ logged (moved size (unflushed events)) (joined_content past a b)
+second-now : (size : ℕ) (past events : List Event) (a b : Option Content) → joined_content (past ++ moved size (unflushed (seen b (logged events b)))) a (logged events b) ≡ logged (moved size (unflushed events)) (joined_content past a b)
 second-now size past events None b = refl
 second-now size past events (Some a) None = refl
 second-now size past events (Some a) (Some b) = ap (λ (l : List Event). joined_content (past ++ moved size (unflushed l)) (Some a) (Some b)) (seen-logged events b)

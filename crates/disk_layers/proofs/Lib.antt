@@ -5,9 +5,6 @@ pub mod Cuts
 pub mod Runs
 pub mod Covered
 pub mod BehindLemmas
-pub mod Ever
-pub mod EverBehind
 pub mod Failing
 pub mod JoinedLemmas
-pub mod EverJoined
 pub mod Walks

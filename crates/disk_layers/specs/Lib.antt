@@ -2,7 +2,6 @@ pub mod Calls
 pub mod Concat
 pub mod ConcatDisk
 pub mod Covering
-pub mod Ever
 pub mod History
 pub mod Joined
 pub mod Names

@@ -3,20 +3,16 @@ ghost use Rattle.std.specs.Prelude.{◌≡◌, ◌+◌, ◌-◌, ◌/◌, ◌%�
 ghost use Rattle.block_traits.specs.Disk.{FitsSize, write_events};
 ghost use Rattle.disk_layers.specs.Calls.{ChangesSector};
 ghost use Rattle.disk_layers.specs.Concat.{AsksOne, BothDo, BothLog, FailedLast, LogsOnly, FailsToDo, FlushesBoth, WritesOne};
-ghost use Rattle.disk_layers.specs.Ever.{EverFirst, EverSecond, EverTold-prop, noted_at};
 ghost use Rattle.disk_layers.specs.Joined.{CoversBoth, CoversBoth-prop, joined_content, joined_history};
 ghost use Rattle.disk_layers.specs.Reported.{FitsSize-prop};
 
 use crate::history::History;
-use crate::moments::Moments;
-use crate::noting::{
-    both_histories, flushed, history_of, moments_of, moments_then, with_first, with_second,
-};
+use crate::noting::{both_histories, flushed, history_of, with_first, with_second};
 use block_traits::{Disk, DiskFailed, Event, Sector};
 
 /// Two disks as one: the sectors of the first, followed by those of the second. As a disk it shows no events, and
 /// reports what was done to it, if both disks report their content. Whatever a crash may leave of both is among what it
-/// may leave of that (`covered`), at each moment of what was done to either (`ever_first`, `ever_second`).
+/// may leave of that (`covered`).
 #[derive(Drop)]
 pub struct Concat<A: Disk, B: Disk> {
     first: A,
@@ -24,13 +20,9 @@ pub struct Concat<A: Disk, B: Disk> {
     // whether the last write that failed was one of the second
     failed_second: bool,
     past: History,
-    first_moments: Moments,
-    second_moments: Moments,
     ghost small: { (A.state first).size + (B.state second).size < 2 ^ 44 },
     ghost fits: { FitsSize ((A.state first).size + (B.state second).size) (joined_content past.events (A.state first).content (B.state second).content) } by { FitsSize-prop ((A.state first).size + (B.state second).size) (joined_content past.events (A.state first).content (B.state second).content) },
     ghost covered: { CoversBoth (A.state first).size (A.state first).content (B.state second).content (joined_content past.events (A.state first).content (B.state second).content) } by { CoversBoth-prop (A.state first).size (A.state first).content (B.state second).content (joined_content past.events (A.state first).content (B.state second).content) },
-    ghost ever_first: { EverFirst (A.state first).size (noted_at first_moments.noted) (A.state first).content (joined_content past.events (A.state first).content (B.state second).content) } by { EverTold-prop (λ n. n < (A.state first).size) (λ n. n) (noted_at first_moments.noted) (A.state first).content (joined_content past.events (A.state first).content (B.state second).content) },
-    ghost ever_second: { EverSecond (A.state first).size (noted_at second_moments.noted) (B.state second).content (joined_content past.events (A.state first).content (B.state second).content) } by { EverTold-prop (λ n. (A.state first).size ≤ n) (λ n. n - (A.state first).size) (noted_at second_moments.noted) (B.state second).content (joined_content past.events (A.state first).content (B.state second).content) },
 }
 
 impl<A: Disk, B: Disk> Concat<A, B> {
@@ -46,15 +38,11 @@ impl<A: Disk, B: Disk> Concat<A, B> {
         ensures told { (concat_disk_of result).content ≡ joined_content (joined_history (A.state first).size (A.state first).content (B.state second).content) (A.state first).content (B.state second).content }
     {
         let past = both_histories(&first, &second);
-        let first_moments = moments_of(&past, &first);
-        let second_moments = moments_of(&past, &second);
         Concat {
             first,
             second,
             failed_second: false,
             past,
-            first_moments,
-            second_moments,
         }
     }
 
@@ -108,8 +96,6 @@ impl<A: Disk, B: Disk> Concat<A, B> {
         ensures noted { OnOk result (self.new.failed_second ≡ self.old.failed_second) }
         ensures failed_last { OnErr result (FailedLast self.new.failed_second (A.state self.old.first) (A.state self.new.first) (B.state self.old.second) (B.state self.new.second)) }
     {
-        self.first_moments = moments_then(&self.first_moments, &self.past, &self.first);
-        self.second_moments = moments_then(&self.second_moments, &self.past, &self.second);
         let before = history_of(&self.first);
         let answer = self.first.write(n, from);
         self.past = with_first(&self.past, &before, &self.first);
@@ -129,8 +115,6 @@ impl<A: Disk, B: Disk> Concat<A, B> {
         ensures noted { OnOk result (self.new.failed_second ≡ self.old.failed_second) }
         ensures failed_last { OnErr result (FailedLast self.new.failed_second (A.state self.old.first) (A.state self.new.first) (B.state self.old.second) (B.state self.new.second)) }
     {
-        self.first_moments = moments_then(&self.first_moments, &self.past, &self.first);
-        self.second_moments = moments_then(&self.second_moments, &self.past, &self.second);
         let before = history_of(&self.second);
         let answer = self.second.write(n, from);
         self.past = with_second(&self.past, &before, &self.second, size);
@@ -169,8 +153,6 @@ impl<A: Disk, B: Disk> Concat<A, B> {
         ensures noted { OnOk result (self.new.failed_second ≡ self.old.failed_second) }
         ensures failed_last { OnErr result (FailedLast self.new.failed_second (A.state self.old.first) (A.state self.new.first) (B.state self.old.second) (B.state self.new.second)) }
     {
-        self.first_moments = moments_then(&self.first_moments, &self.past, &self.first);
-        self.second_moments = moments_then(&self.second_moments, &self.past, &self.second);
         let before = history_of(&self.first);
         let answer = write_some(&mut self.first, first, from);
         self.past = with_first(&self.past, &before, &self.first);
@@ -192,8 +174,6 @@ impl<A: Disk, B: Disk> Concat<A, B> {
         ensures noted { OnOk result (self.new.failed_second ≡ self.old.failed_second) }
         ensures failed_last { OnErr result (FailedLast self.new.failed_second (A.state self.old.first) (A.state self.new.first) (B.state self.old.second) (B.state self.new.second)) }
     {
-        self.first_moments = moments_then(&self.first_moments, &self.past, &self.first);
-        self.second_moments = moments_then(&self.second_moments, &self.past, &self.second);
         let before = history_of(&self.second);
         let answer = write_some(&mut self.second, first, from);
         self.past = with_second(&self.past, &before, &self.second, size);
@@ -212,8 +192,6 @@ impl<A: Disk, B: Disk> Concat<A, B> {
     {
         self.first.flush()?;
         self.second.flush()?;
-        self.first_moments = moments_then(&self.first_moments, &self.past, &self.first);
-        self.second_moments = moments_then(&self.second_moments, &self.past, &self.second);
         self.past = flushed(&self.past);
         Ok(())
     }
@@ -228,8 +206,6 @@ impl<A: Disk, B: Disk> Concat<A, B> {
             second,
             failed_second: _,
             past: _,
-            first_moments: _,
-            second_moments: _,
         } = self;
         (first, second)
     }

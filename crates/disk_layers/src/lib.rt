@@ -5,7 +5,6 @@ mod concat;
 mod history;
 mod laws;
 mod layer;
-mod moments;
 mod noting;
 mod write_behind;
 

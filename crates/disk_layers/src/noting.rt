@@ -1,12 +1,10 @@
-//! What is added to a history, and how much was done below then.
+//! What is added to a history.
 ghost use Rattle.std.specs.Prelude.{◌≡◌, ◌++◌, ◌∷◌, [], drop, length};
 ghost use Rattle.block_traits.specs.declared.disk.Event.TheVariants.{Flush, Write};
-ghost use Rattle.disk_layers.specs.Ever.{times_new, times_then};
 ghost use Rattle.disk_layers.specs.History.{moved, told_history, unflushed};
 ghost use Rattle.disk_layers.specs.Joined.{joined_history};
 
 use crate::history::{History, Reads};
-use crate::moments::{Counts, Moments};
 use block_traits::{Disk, Sector};
 
 // What a disk logged.
@@ -119,50 +117,5 @@ pub(crate) fn with_second<D: Disk>(past: &History, before: &History, disk: &D, s
         before,
         disk,
         size,
-    })
-}
-
-// A history, and a disk below.
-#[derive(Drop)]
-struct Over<'a, D: Disk> {
-    past: &'a History,
-    disk: &'a D,
-}
-
-struct OfNew;
-
-impl<'a, D: Disk> Counts<Over<'a, D>> for OfNew {
-    ghost noted = { λ w. times_new (length (told_history (D.state w.disk.now).content)) (length w.past.now.events) };
-}
-
-/// The moments of a new layer with this history.
-pub(crate) fn moments_of<D: Disk>(past: &History, disk: &D) -> Moments
-    ensures { result.noted ≡ times_new (length (told_history (D.state disk.now).content)) (length past.now.events) }
-{
-    Moments::of::<Over<'_, D>, OfNew>(&Over { past, disk })
-}
-
-// Moments, a history, and a disk below.
-#[derive(Drop)]
-struct Since<'a, D: Disk> {
-    moments: &'a Moments,
-    past: &'a History,
-    disk: &'a D,
-}
-
-struct AndThen;
-
-impl<'a, D: Disk> Counts<Since<'a, D>> for AndThen {
-    ghost noted = { λ w. times_then w.moments.now.noted (length w.past.now.events) (length (told_history (D.state w.disk.now).content)) };
-}
-
-/// Moments, if all events after this history are noted when the disk has done what it has.
-pub(crate) fn moments_then<D: Disk>(moments: &Moments, past: &History, disk: &D) -> Moments
-    ensures { result.noted ≡ times_then moments.now.noted (length past.now.events) (length (told_history (D.state disk.now).content)) }
-{
-    Moments::of::<Since<'_, D>, AndThen>(&Since {
-        moments,
-        past,
-        disk,
     })
 }

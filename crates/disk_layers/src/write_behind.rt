@@ -17,14 +17,12 @@ ghost use Rattle.block_traits.specs.Causes.{Counted, Rose};
 ghost use Rattle.block_traits.specs.Disk.{FitsSize, GivesFrom, Logs};
 ghost use Rattle.block_traits.specs.Content.{logged};
 ghost use Rattle.disk_layers.specs.Covering.{CoversTold, CoversTold-prop};
-ghost use Rattle.disk_layers.specs.Ever.{EverBelow, EverTold-prop, noted_at};
 ghost use Rattle.disk_layers.specs.History.{with_history};
 ghost use Rattle.disk_layers.specs.Reported.{FitsSize-prop};
 ghost use Rattle.disk_layers.specs.Waiting.{FitBelow, FitBelow-prop, StopsIn, last_waiting, writes_of};
 
 use crate::history::History;
-use crate::moments::Moments;
-use crate::noting::{flushed, history_of, moments_of, moments_then, written};
+use crate::noting::{flushed, history_of, written};
 use block_traits::{Disk, DiskFailed, Event, NoMemory, Sector, sector_of};
 use std::alloc::Global;
 use std::collections::VecDeque;
@@ -38,8 +36,7 @@ pub struct Waiting {
 }
 
 /// A disk and writes that wait for it, in their order. As a disk it shows no events, and reports what was done to it, if
-/// the disk below reports its content. Whatever a crash may leave below is among what it may leave of that (`covered`), at
-/// each moment of what was done below (`ever`).
+/// the disk below reports its content. Whatever a crash may leave below is among what it may leave of that (`covered`).
 #[derive(Drop)]
 pub struct WriteBehind<D: Disk> {
     under: D,
@@ -48,7 +45,6 @@ pub struct WriteBehind<D: Disk> {
     clean: bool,
     reads: u64,
     past: History,
-    moments: Moments,
     ghost some: { 1 ≤ room },
     ghost small: { room ≤ 1024 },
     ghost within: { deque_len waiting ≤ room },
@@ -56,7 +52,6 @@ pub struct WriteBehind<D: Disk> {
     ghost fit: { FitBelow (D.state under).size waiting.items } by { FitBelow-prop (D.state under).size waiting.items },
     ghost fits: { FitsSize (D.state under).size (with_history past.events (D.state under).content) } by { FitsSize-prop (D.state under).size (with_history past.events (D.state under).content) },
     ghost covered: { CoversTold (logged (writes_of waiting.items) (D.state under).content) (with_history past.events (D.state under).content) } by { CoversTold-prop (logged (writes_of waiting.items) (D.state under).content) (with_history past.events (D.state under).content) },
-    ghost ever: { EverBelow (noted_at moments.noted) (D.state under).content (with_history past.events (D.state under).content) } by { EverTold-prop (λ n. Unit {0}) (λ n. n) (noted_at moments.noted) (D.state under).content (with_history past.events (D.state under).content) },
 }
 
 impl<D: Disk> WriteBehind<D> {
@@ -75,7 +70,6 @@ impl<D: Disk> WriteBehind<D> {
         ensures back { IfErr result (λ refused. refused.0 ≡ under) }
     {
         let past = history_of(&under);
-        let moments = moments_of(&past, &under);
         let Ok(waiting) = VecDeque::with_capacity(alloc, room as usize) else {
             return Err((under, NoMemory));
         };
@@ -86,7 +80,6 @@ impl<D: Disk> WriteBehind<D> {
             clean: true,
             reads: 0,
             past,
-            moments,
         })
     }
 
@@ -162,7 +155,6 @@ impl<D: Disk> WriteBehind<D> {
         ensures unasked { self.new.reads ≡ self.old.reads }
     {
         self.waiting.push_back_reserved(Waiting { n, bytes: *from });
-        self.moments = moments_then(&self.moments, &self.past, &self.under);
         self.past = written(&self.past, n, from);
     }
 
@@ -180,7 +172,6 @@ impl<D: Disk> WriteBehind<D> {
         self.write_all()?;
         match self.under.flush() {
             Ok(()) => {
-                self.moments = moments_then(&self.moments, &self.past, &self.under);
                 self.past = flushed(&self.past);
                 Ok(())
             }
@@ -217,7 +208,6 @@ impl<D: Disk> WriteBehind<D> {
             clean: _,
             reads: _,
             past: _,
-            moments: _,
         } = self;
         (under, answer)
     }

@@ -1,11 +1,9 @@
 -- What was noted is what the disk logged.
-use Rattle.std.proofs.Common.{◌+◌, List, refl, sym, subst, ℕ, subst₂}
+use Rattle.std.proofs.Common.{◌+◌, List, refl, sym, subst}
 use Rattle.block_traits.specs.declared.disk.Event.{Event}
 use Rattle.block_traits.specs.Disk.{FitsSize, write_events}
 use Rattle.disk_layers.specs.Joined.{CoversBoth, joined_content}
 use Rattle.disk_layers.proofs.Failing.{failed_first}
-use Rattle.disk_layers.specs.Ever.{EverFirst, EverSecond, Times, noted_at}
-use Rattle.disk_layers.proofs.EverJoined.{first-ever, first-ever_other}
 use Rattle.disk_layers.proofs.JoinedLemmas.{AreWrites-from, Part-answer, first-covers, first-fails, first-fits, first-logs, noted-first, on_err, on_ok}
 use Rattle.disk_layers.proofs.concat.Concat.run_first.Goals as goal
 
@@ -55,27 +53,3 @@ pub returns-clause-failed_last : goal.returns-clause-failed_last
 returns-clause-failed_last g c =
     failed_first c.write_some-answer.result c.which_failed-self.result (write_events c.args.first c.args.from.now) (g.A.Disk.state c.args.self.now.first) (g.A.Disk.state c.write_some-answer.new.disk) (g.B.Disk.state c.args.self.now.second) _
     c.which_failed-self.ensures.err (on_err c.write_some-answer.result (λ h. h.fails) c.write_some-answer.ensures.failed)
-
-pub invariant_of-self-clause-ever_first : goal.invariant_of-self-clause-ever_first
-invariant_of-self-clause-ever_first g c =
-    let old = g.A.Disk.state c.args.self.now.first in
-    let new = g.A.Disk.state c.write_some-answer.new.disk in
-    let other = g.B.Disk.state c.args.self.now.second in
-    let past : List Event = c.args.self.now.past.events in
-    let events : List Event = write_events c.args.first c.args.from.now in
-    let noted = noted-first past c.with_first-self.result.events c.history_of-before.result.events old.content new.content c.history_of-before.ensures c.with_first-self.ensures in
-    let part = Part-answer events c.write_some-answer.result {old = old} {new = new} (on_ok c.write_some-answer.result (λ h. h.logs) c.write_some-answer.ensures.did) (on_err c.write_some-answer.result (λ h. h.fails) c.write_some-answer.ensures.failed) in
-    let P = λ (m : Times) (l : List Event). EverFirst new.size (noted_at m) new.content (joined_content l new.content other.content) in
-    subst₂ P (sym c.moments_then-self.ensures) (sym noted) (first-ever (noted_at c.args.self.now.first_moments.noted) events past old new other part c.args.self.now.covered c.args.self.now.ever_first)
-
-pub invariant_of-self-clause-ever_second : goal.invariant_of-self-clause-ever_second
-invariant_of-self-clause-ever_second g c =
-    let old = g.A.Disk.state c.args.self.now.first in
-    let new = g.A.Disk.state c.write_some-answer.new.disk in
-    let other = g.B.Disk.state c.args.self.now.second in
-    let past : List Event = c.args.self.now.past.events in
-    let events : List Event = write_events c.args.first c.args.from.now in
-    let noted = noted-first past c.with_first-self.result.events c.history_of-before.result.events old.content new.content c.history_of-before.ensures c.with_first-self.ensures in
-    let part = Part-answer events c.write_some-answer.result {old = old} {new = new} (on_ok c.write_some-answer.result (λ h. h.logs) c.write_some-answer.ensures.did) (on_err c.write_some-answer.result (λ h. h.fails) c.write_some-answer.ensures.failed) in
-    let P = λ (m : Times) (l : List Event). EverSecond new.size (noted_at m) other.content (joined_content l new.content other.content) in
-    subst₂ P (sym c.moments_then-self-2.ensures) (sym noted) (first-ever_other (noted_at c.args.self.now.second_moments.noted) events past old new other part c.args.self.now.covered c.args.self.now.ever_second)

@@ -1,11 +1,9 @@
 -- What was noted is what the disk logged.
-use Rattle.std.proofs.Common.{◌+◌, List, refl, sym, subst, ℕ, subst₂}
+use Rattle.std.proofs.Common.{◌+◌, List, refl, sym, subst}
 use Rattle.block_traits.specs.declared.disk.Event.{Event}
 use Rattle.block_traits.specs.Disk.{FitsSize, write_events}
 use Rattle.disk_layers.specs.Joined.{CoversBoth, joined_content}
 use Rattle.disk_layers.proofs.Failing.{failed_second}
-use Rattle.disk_layers.specs.Ever.{EverFirst, EverSecond, Times, noted_at}
-use Rattle.disk_layers.proofs.EverJoined.{second-ever, second-ever_other}
 use Rattle.disk_layers.proofs.JoinedLemmas.{AreWrites-from, Part-answer, moved-from, noted-second, on_err, on_ok, second-covers, second-fails, second-fits, second-logs}
 use Rattle.disk_layers.proofs.concat.Concat.run_second.Goals as goal
 
@@ -59,29 +57,3 @@ pub returns-clause-failed_last : goal.returns-clause-failed_last
 returns-clause-failed_last g c =
     failed_second c.write_some-answer.result c.which_failed-self.result (write_events c.args.first c.args.from.now) (g.A.Disk.state c.args.self.now.first) _ (g.B.Disk.state c.args.self.now.second) (g.B.Disk.state c.write_some-answer.new.disk)
     c.which_failed-self.ensures.err (on_err c.write_some-answer.result (λ h. h.fails) c.write_some-answer.ensures.failed)
-
-pub invariant_of-self-clause-ever_first : goal.invariant_of-self-clause-ever_first
-invariant_of-self-clause-ever_first g c =
-    let old = g.B.Disk.state c.args.self.now.second in
-    let new = g.B.Disk.state c.write_some-answer.new.disk in
-    let other = g.A.Disk.state c.args.self.now.first in
-    let past : List Event = c.args.self.now.past.events in
-    let events : List Event = write_events c.args.first c.args.from.now in
-    let all : List Event = write_events (c.args.first + c.args.size) c.args.from.now in
-    let noted = noted-second c.args.size past c.with_second-self.result.events c.history_of-before.result.events old.content new.content c.history_of-before.ensures c.with_second-self.ensures in
-    let part = Part-answer events c.write_some-answer.result {old = old} {new = new} (on_ok c.write_some-answer.result (λ h. h.logs) c.write_some-answer.ensures.did) (on_err c.write_some-answer.result (λ h. h.fails) c.write_some-answer.ensures.failed) in
-    let P = λ (m : Times) (l : List Event). EverFirst other.size (noted_at m) other.content (joined_content l other.content new.content) in
-    subst₂ P (sym c.moments_then-self.ensures) (sym noted) (second-ever_other (noted_at c.args.self.now.first_moments.noted) events past old new other part c.args.size c.requires.size c.args.self.now.covered c.args.self.now.ever_first)
-
-pub invariant_of-self-clause-ever_second : goal.invariant_of-self-clause-ever_second
-invariant_of-self-clause-ever_second g c =
-    let old = g.B.Disk.state c.args.self.now.second in
-    let new = g.B.Disk.state c.write_some-answer.new.disk in
-    let other = g.A.Disk.state c.args.self.now.first in
-    let past : List Event = c.args.self.now.past.events in
-    let events : List Event = write_events c.args.first c.args.from.now in
-    let all : List Event = write_events (c.args.first + c.args.size) c.args.from.now in
-    let noted = noted-second c.args.size past c.with_second-self.result.events c.history_of-before.result.events old.content new.content c.history_of-before.ensures c.with_second-self.ensures in
-    let part = Part-answer events c.write_some-answer.result {old = old} {new = new} (on_ok c.write_some-answer.result (λ h. h.logs) c.write_some-answer.ensures.did) (on_err c.write_some-answer.result (λ h. h.fails) c.write_some-answer.ensures.failed) in
-    let P = λ (m : Times) (l : List Event). EverSecond other.size (noted_at m) new.content (joined_content l other.content new.content) in
-    subst₂ P (sym c.moments_then-self-2.ensures) (sym noted) (second-ever (noted_at c.args.self.now.second_moments.noted) events past old new other part c.args.size c.requires.size c.args.self.now.covered c.args.self.now.ever_second)

@@ -1,12 +1,10 @@
 -- What was noted is what the disk logged.
-use Rattle.std.proofs.Common.{◌+◌, List, [], ◌∷◌, refl, sym, subst, ℕ, subst₂}
+use Rattle.std.proofs.Common.{◌+◌, List, [], ◌∷◌, refl, sym, subst}
 use Rattle.block_traits.specs.declared.disk.Event.{Event}
 use Rattle.block_traits.specs.declared.disk.Event.TheVariants.{Write}
 use Rattle.block_traits.specs.Disk.{FitsSize}
 use Rattle.disk_layers.specs.Joined.{CoversBoth, joined_content}
 use Rattle.disk_layers.proofs.Failing.{failed_first}
-use Rattle.disk_layers.specs.Ever.{EverFirst, EverSecond, Times, noted_at}
-use Rattle.disk_layers.proofs.EverJoined.{first-ever, first-ever_other}
 use Rattle.disk_layers.proofs.JoinedLemmas.{AreWrites-one, Part-answer, first-covers, first-fails, first-fits, first-logs, noted-first, on_err, on_ok}
 use Rattle.disk_layers.proofs.concat.Concat.write_first.Goals as goal
 
@@ -56,27 +54,3 @@ pub returns-clause-failed_last : goal.returns-clause-failed_last
 returns-clause-failed_last g c =
     failed_first c.write-answer.result c.which_failed-self.result (Write c.args.n c.args.from.now ∷ []) (g.A.Disk.state c.args.self.now.first) (g.A.Disk.state c.write-answer.new.self) (g.B.Disk.state c.args.self.now.second) _
     c.which_failed-self.ensures.err c.write-answer.ensures.err
-
-pub invariant_of-self-clause-ever_first : goal.invariant_of-self-clause-ever_first
-invariant_of-self-clause-ever_first g c =
-    let old = g.A.Disk.state c.args.self.now.first in
-    let new = g.A.Disk.state c.write-answer.new.self in
-    let other = g.B.Disk.state c.args.self.now.second in
-    let past : List Event = c.args.self.now.past.events in
-    let events : List Event = Write c.args.n c.args.from.now ∷ [] in
-    let noted = noted-first past c.with_first-self.result.events c.history_of-before.result.events old.content new.content c.history_of-before.ensures c.with_first-self.ensures in
-    let part = Part-answer events c.write-answer.result {old = old} {new = new} (c.write-answer.ensures.ok) (c.write-answer.ensures.err) in
-    let P = λ (m : Times) (l : List Event). EverFirst new.size (noted_at m) new.content (joined_content l new.content other.content) in
-    subst₂ P (sym c.moments_then-self.ensures) (sym noted) (first-ever (noted_at c.args.self.now.first_moments.noted) events past old new other part c.args.self.now.covered c.args.self.now.ever_first)
-
-pub invariant_of-self-clause-ever_second : goal.invariant_of-self-clause-ever_second
-invariant_of-self-clause-ever_second g c =
-    let old = g.A.Disk.state c.args.self.now.first in
-    let new = g.A.Disk.state c.write-answer.new.self in
-    let other = g.B.Disk.state c.args.self.now.second in
-    let past : List Event = c.args.self.now.past.events in
-    let events : List Event = Write c.args.n c.args.from.now ∷ [] in
-    let noted = noted-first past c.with_first-self.result.events c.history_of-before.result.events old.content new.content c.history_of-before.ensures c.with_first-self.ensures in
-    let part = Part-answer events c.write-answer.result {old = old} {new = new} (c.write-answer.ensures.ok) (c.write-answer.ensures.err) in
-    let P = λ (m : Times) (l : List Event). EverSecond new.size (noted_at m) other.content (joined_content l new.content other.content) in
-    subst₂ P (sym c.moments_then-self-2.ensures) (sym noted) (first-ever_other (noted_at c.args.self.now.second_moments.noted) events past old new other part c.args.self.now.covered c.args.self.now.ever_second)

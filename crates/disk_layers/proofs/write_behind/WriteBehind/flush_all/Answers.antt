@@ -1,16 +1,14 @@
 -- All that waited was written, and the flush was refused.
-use Rattle.std.proofs.Common.{◌∙◌, [], ◌∷◌, ℕ, subst₂, List, arith, rules, ap, inr, refl, subst, sym}
+use Rattle.std.proofs.Common.{◌∙◌, [], ◌∷◌, List, arith, rules, ap, inr, refl, subst, sym}
 use Rattle.block_traits.proofs.Logs.{logged-none}
 use Rattle.block_traits.specs.declared.disk.Event.{Event}
 use Rattle.block_traits.specs.declared.disk.Event.TheVariants.{Flush}
 use Rattle.block_traits.specs.Content.{logged}
 use Rattle.disk_layers.specs.Covering.{CoversTold}
-use Rattle.disk_layers.specs.Ever.{EverBelow, Times, noted_at}
 use Rattle.disk_layers.specs.History.{with_history}
 use Rattle.disk_layers.specs.Waiting.{writes_of}
 use Rattle.disk_layers.proofs.BehindLemmas.{flush-covers, flush-fits, flush-reported, flush-refused, history-covers, history-fits, quiet-fails, same_history, stops-rose}
 use Rattle.disk_layers.specs.WriteBehind.{behind_disk_of}
-use Rattle.disk_layers.proofs.EverBehind.{behind-noted, flushed-ever}
 use Rattle.disk_layers.proofs.write_behind.WriteBehind.flush_all.Goals as goal
 
 pub returns-in-Err-clause-answer : goal.returns-in-Err-clause-answer
@@ -92,21 +90,3 @@ returns-in-Err-clause-err g c =
       };
       rose = omega (arith, fails.rose, quiet.faults);
     }
-
-pub invariant_of-self-clause-ever : goal.invariant_of-self-clause-ever
-invariant_of-self-clause-ever g c =
-    let before = c.write_all.new.self in
-    let old = g.D.Disk.state before.under in
-    let new = g.D.Disk.state c.flush.new.self in
-    let none = c.in_ok-write_all.ensures.none in
-    let P = λ (noted : Times) (l : List Event). EverBelow (noted_at noted) new.content (with_history l new.content) in
-    let flushed = flushed-ever (noted_at before.moments.noted) before.past.events 1 before.waiting.items old.content new.content none c.in-Ok.ensures.ok.content before.covered before.ever in
-    let covers = flush-covers before.past.events old new before.waiting.items before.waiting.items c.in-Ok.ensures.ok none none before.covered in
-    subst₂ P (sym c.moments_then-self.ensures) (sym c.flushed-self.ensures) (behind-noted (noted_at before.moments.noted) before.past.events Flush before.waiting.items new.content covers flushed)
-
-pub invariant_of-self-in-Err-clause-ever : goal.invariant_of-self-in-Err-clause-ever
-invariant_of-self-in-Err-clause-ever g c =
-    let before = c.write_all.new.self in
-    let none = c.in_ok-write_all.ensures.none in
-    let fails = c.in-Err.ensures.err in
-    flushed-ever (noted_at before.moments.noted) before.past.events fails.count before.waiting.items (g.D.Disk.state before.under).content (g.D.Disk.state c.flush.new.self).content none fails.logs.content before.covered before.ever

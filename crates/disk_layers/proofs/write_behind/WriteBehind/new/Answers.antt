@@ -1,15 +1,13 @@
 -- Nothing waits, and the history is that of the disk below.
-use Rattle.std.proofs.Common.{◌∙◌, ℕ, List, length, ap, sym, subst, subst₂}
+use Rattle.std.proofs.Common.{◌∙◌, List, ap, sym, subst, subst₂}
 use Rattle.block_traits.specs.declared.disk.Event.{Event}
 use Rattle.block_traits.specs.Content.{logged}
 use Rattle.block_traits.specs.Disk.{FitsSize}
 use Rattle.disk_layers.specs.declared.write_behind.Waiting.{Waiting}
 use Rattle.disk_layers.specs.Covering.{CoversTold}
-use Rattle.disk_layers.specs.Ever.{EverBelow, Times, noted_at, times_new}
-use Rattle.disk_layers.specs.History.{told_history, with_history}
+use Rattle.disk_layers.specs.History.{with_history}
 use Rattle.disk_layers.specs.Waiting.{writes_of}
 use Rattle.disk_layers.proofs.BehindLemmas.{anew-own, new-covered, new-fitting}
-use Rattle.disk_layers.proofs.EverBehind.{behind-new}
 use Rattle.disk_layers.proofs.write_behind.WriteBehind.new.Goals as goal
 
 pub invariant_of-result-clause-fits : goal.invariant_of-result-clause-fits
@@ -27,10 +25,3 @@ pub returns-clause-told : goal.returns-clause-told
 returns-clause-told g c =
     let d = g.D.Disk.state c.args.under in
     ap (λ (l : List Event). with_history l d.content) c.history_of-past.ensures ∙ anew-own d.content
-
-pub invariant_of-result-clause-ever : goal.invariant_of-result-clause-ever
-invariant_of-result-clause-ever g c =
-    let d = g.D.Disk.state c.args.under in
-    let done : ℕ = length (told_history d.content) in
-    let P = λ (l : List Event). EverBelow (noted_at (times_new done (length l))) d.content (with_history l d.content) in
-    subst (λ (noted : Times). EverBelow (noted_at noted) d.content (with_history c.history_of-past.result.events d.content)) (sym c.moments_of-moments.ensures) (subst P (sym c.history_of-past.ensures) (behind-new d.content))

@@ -1,5 +1,5 @@
 -- One more write waits, and is reported.
-use Rattle.std.proofs.Common.{◌≡◌, ◌∙◌, ◌<◌, ℕ, ◌++◌, List, [], ◌∷◌, arith, rules, length, refl, ap, sym, subst, subst₂, All}
+use Rattle.std.proofs.Common.{◌≡◌, ◌∙◌, ◌<◌, List, [], ◌∷◌, arith, rules, length, refl, ap, sym, subst, subst₂, All}
 use Rattle.std.proofs.lemmas.List.Elements.{All-cons, All-nil, All-push}
 use Rattle.block_traits.specs.declared.disk.Event.{Event}
 use Rattle.block_traits.specs.declared.disk.Event.TheVariants.{Write}
@@ -7,11 +7,9 @@ use Rattle.block_traits.specs.Content.{IsEventOf, logged}
 use Rattle.block_traits.specs.Disk.{FitsSize}
 use Rattle.disk_layers.specs.declared.write_behind.Waiting.{Waiting}
 use Rattle.disk_layers.specs.Covering.{CoversTold}
-use Rattle.disk_layers.specs.Ever.{EverBelow, Times, noted_at}
 use Rattle.disk_layers.specs.History.{with_history}
 use Rattle.disk_layers.specs.Waiting.{FitBelow, writes_of}
 use Rattle.disk_layers.proofs.BehindLemmas.{anew-more, more-fits, push-covers}
-use Rattle.disk_layers.proofs.EverBehind.{behind-noted}
 use Rattle.disk_layers.proofs.write_behind.WriteBehind.put.Goals as goal
 
 pub invariant_of-self-clause-fit : goal.invariant_of-self-clause-fit
@@ -46,13 +44,3 @@ returns-clause-logs g c =
       shows = refl;
       faults = omega arith;
     }
-
-pub invariant_of-self-clause-ever : goal.invariant_of-self-clause-ever
-invariant_of-self-clause-ever g c =
-    let d = g.D.Disk.state c.args.self.now.under in
-    let past = c.args.self.now.past.events in
-    let waiting = c.args.self.now.waiting.items in
-    let write : Waiting = record { n = c.args.n; bytes = c.args.from.now } in
-    let P = λ (noted : Times) (l : List Event). EverBelow (noted_at noted) d.content (with_history l d.content) in
-    subst₂ P (sym c.moments_then-self.ensures) (sym c.written-self.ensures)
-    (behind-noted (noted_at c.args.self.now.moments.noted) past (Write c.args.n c.args.from.now) (waiting ++ write ∷ []) d.content (push-covers past d.content waiting write c.args.self.now.covered) c.args.self.now.ever)

@@ -1,11 +1,9 @@
 -- What waited was written below, and what is reported stays.
 use Rattle.std.proofs.Common.{◌∙◌, refl, sym}
 use Rattle.block_traits.proofs.Logs.{logged-none}
-use Rattle.disk_layers.specs.Ever.{noted_at}
 use Rattle.disk_layers.specs.History.{with_history}
 use Rattle.disk_layers.specs.Waiting.{writes_of}
-use Rattle.disk_layers.proofs.BehindLemmas.{drained, history-covers, history-fits, same_history, stops-covered, stops-faults, stops-history, stops-size}
-use Rattle.disk_layers.proofs.EverBehind.{drained-ever, stops-ever}
+use Rattle.disk_layers.proofs.BehindLemmas.{history-covers, history-fits, same_history, stops-covered, stops-faults, stops-history, stops-size}
 use Rattle.disk_layers.proofs.write_behind.WriteBehind.write_all.Goals as goal
 
 pub invariant_of-self-in-Err-clause-fits : goal.invariant_of-self-in-Err-clause-fits
@@ -54,23 +52,3 @@ returns-in-Err-clause-quiet g c =
       shows = refl;
       faults = stops-faults past old new waiting left stops;
     }
-
-pub invariant_of-self-clause-ever : goal.invariant_of-self-clause-ever
-invariant_of-self-clause-ever g c =
-    let here = c.args.self.now in
-    drained-ever (noted_at here.moments.noted) here.past.events here.waiting.items (g.D.Disk.state here.under) (g.D.Disk.state c.drain.new.under) c.in-Ok.ensures.ok here.covered here.ever
-
-pub invariant_of-self-in-Err-clause-ever : goal.invariant_of-self-in-Err-clause-ever
-invariant_of-self-in-Err-clause-ever g c =
-    let here = c.args.self.now in
-    stops-ever (noted_at here.moments.noted) here.past.events here.waiting.items c.drain.new.waiting.items (g.D.Disk.state here.under) (g.D.Disk.state c.drain.new.under) c.in-Err.ensures.err here.covered here.ever
-
-pub invariant_of-self-clause-covered : goal.invariant_of-self-clause-covered
-invariant_of-self-clause-covered g c =
-    let past = c.args.self.now.past.events in
-    let waiting = c.args.self.now.waiting.items in
-    let left = c.drain.new.waiting.items in
-    let old = g.D.Disk.state c.args.self.now.under in
-    let new = g.D.Disk.state c.drain.new.under in
-    let logs = c.in-Ok.ensures.ok in
-    history-covers past old new waiting left (same_history past old new (writes_of waiting) logs) (drained past old new waiting left logs c.in-Ok.ensures.none) c.args.self.now.covered

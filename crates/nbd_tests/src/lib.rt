@@ -13,3 +13,5 @@ mod requests;
 mod sessions;
 #[cfg(test)]
 mod vectors;
+#[cfg(test)]
+mod waiting;

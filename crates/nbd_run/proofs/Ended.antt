@@ -26,17 +26,17 @@ by_flush : (flushed : Result (Unit {0}) DiskFailed) (side : Side) (xs : List Exc
 by_flush (Ok done) side xs old last new c is told served closed = closed_survives side xs old last new c is told served closed
 by_flush (Err failed) side xs old last new c is told served closed = session-survives side xs old last c is told served
 
-where_told : (told : Option Content) (side : Side) (source rest : SourceState) (sink after : SinkState) (status : Status) (old new : DiskState) → IsKeying side.keying → old.content ≡ told
-    → (e : EndsWith side source rest sink after status old new) → IfSome told (EnduresSession side source rest sink after status old new e)
-where_told None side source rest sink after status old new is told e = tt
-where_told (Some c) side source rest sink after status old new is told e =
+where_told : (told : Option Content) (side : Side) (source rest : SourceState) (sink after log logged : SinkState) (status : Status) (old new : DiskState) → IsKeying side.keying → old.content ≡ told
+    → (e : EndsWith side source rest sink after log logged status old new) → IfSome told (EnduresSession side source rest sink after log logged status old new e)
+where_told None side source rest sink after log logged status old new is told e = tt
+where_told (Some c) side source rest sink after log logged status old new is told e =
     by_flush e.flushed side e.session.talks.talk.exchanges old e.session.last new c is told e.session.talks.served e.session.closed
 
 -- what the file reported when it was opened is what the disk reported when it was attached
 pub endures : {F : Type 0} {g : Ghosts (FileDisk F)} (told : F → Option Told) (same : (d : FileDisk F) → (g.state d).content ≡ (file.file_disk_state told d).content)
-    (disk : ImageDisk F g) (side : Side) (source rest : SourceState) (sink after : SinkState) (status : Status) (old new : DiskState) → IsKeying side.keying → TellsImage told disk → Logs [] (image_disk_state disk) old
-    → (e : EndsWith side source rest sink after status old new) → IfFileTells told disk (EnduresSession side source rest sink after status old new e)
-endures {F} {g} told same (Plain disk) side source rest sink after status old new is tells quiet e =
-    where_told _ side source rest sink after status old new is (quiet.content ∙ logged-none (g.state disk).content ∙ same disk ∙ tells) e
-endures told same (Behind behind) side source rest sink after status old new is tells quiet e = tt
-endures told same (Join both) side source rest sink after status old new is tells quiet e = tt
+    (disk : ImageDisk F g) (side : Side) (source rest : SourceState) (sink after log logged : SinkState) (status : Status) (old new : DiskState) → IsKeying side.keying → TellsImage told disk → Logs [] (image_disk_state disk) old
+    → (e : EndsWith side source rest sink after log logged status old new) → IfFileTells told disk (EnduresSession side source rest sink after log logged status old new e)
+endures {F} {g} told same (Plain disk) side source rest sink after log logged status old new is tells quiet e =
+    where_told _ side source rest sink after log logged status old new is (quiet.content ∙ logged-none (g.state disk).content ∙ same disk ∙ tells) e
+endures told same (Behind behind) side source rest sink after log logged status old new is tells quiet e = tt
+endures told same (Join both) side source rest sink after log logged status old new is tells quiet e = tt

@@ -322,10 +322,10 @@ stands number k q part bytes whole c earlier tail image is of part_is quiet flus
     let left = length-drop (lead * S) whole in
     let sum : many * S ≡ lead * S + (count * S + rest * S) = ap (λ (n : ℕ). n * S) in_it.count ∙ add-mul lead (count + rest) S ∙ ap (λ (n : ℕ). lead * S + n) (add-mul count rest S) in
     let below = of.inside in
-    let counted = in_it.count in
+    let with_denied = in_it.count in
     let same_first = in_it.first in
     let reads = data-lasts count number k from here (λ n. cell_after steps n (start n)) (after ((earlier ++ ahead) ++ steps) c) image is (AreBytes-drop (lead * S) whole of.are) (omega (arith, left, fills, sum))
-    (omega (arith, below, counted)) (subst (λ (s : List Step). IsTorn (after s c) image) now torn)
+    (omega (arith, below, with_denied)) (subst (λ (s : List Step). IsTorn (after s c) image) now torn)
     (λ n. kept_values-cell c ((earlier ++ ahead) ++ steps) n ∙ ap all_device_bytes (cell_after-append (earlier ++ ahead) steps n (map Raw (kept_values c n))))
     (write-holds count number k from here start (behind ++ tail)
     (λ n low high. quiet-both behind tail n (quiet-data number k (from + count) rest (drop (count * S) here) n (inl high))

@@ -1,5 +1,5 @@
 -- Requests that are taken, served and answered.
-use Rattle.std.proofs.Common.{◌≡◌, ◌∙◌, inl, inr, ℕ, ◌+◌, ◌-◌, ◌%◌, ◌<◌, ◌≤◌, Bool, false, List, [], ◌++◌, length, take, drop, None, Some, Result, Err, refl, ap, sym, subst, arith, append-nil, length-drop, length-take-le}
+use Rattle.std.proofs.Common.{◌≡◌, ◌∙◌, inl, inr, ℕ, ◌+◌, ◌-◌, ◌%◌, ◌<◌, ◌≤◌, Bool, Option, List, [], ◌++◌, length, take, drop, None, Some, Result, Err, refl, ap, sym, subst, arith, append-nil, length-drop, length-take-le}
 use Rattle.std.proofs.Math.Seq.{drop-append-add, take-append-add, take-append_seam}
 use Rattle.std.proofs.lemmas.List.{drop-drop, drop-take, take-append-le, take-take}
 use Rattle.std.proofs.lemmas.Option.{none-some, same_Some}
@@ -19,9 +19,11 @@ use Rattle.nbd_negotiation.specs.Streams.{Fills, GivesBytes, SourceGave}
 use Rattle.nbd_negotiation.specs.declared.streams.End.{End}
 use Rattle.nbd_negotiation.specs.declared.streams.End.TheVariants.{Closed, ReadFault, WriteFault, Malformed}
 use Rattle.nbd_negotiation.proofs.Filling.{SourceGave-bare, SourceGave-then, fewer, part_filled}
-use Rattle.nbd_session.specs.Requests.{AnswersRead, AnswersWrite, MayRead, ServesKind, Side, denied_by, most, range_of}
+use Rattle.nbd_session.specs.Denials.{denial_by}
+use Rattle.nbd_session.specs.Requests.{AnswersRead, AnswersWrite, MayRead, ServesKind, Side, most, range_of}
 use Rattle.nbd_session.specs.Served.{KindIsServed, ServesNone, ServesRequest, WriteIsCut}
 use Rattle.nbd_session.specs.Stops.{IsCut, LacksBytes, Stops}
+use Rattle.nbd_session.specs.declared.denials.Denial.{Denial}
 use borrow.Rule.Slice.PartMut.{mid_of, put_mid, post_of}
 
 -- ---- the room
@@ -112,8 +114,8 @@ gives-bare xs result sink after h = subst (λ (l : List ℕ). GivesBytes l sink 
 
 -- an exchange of a request of this kind
 one : (kind : RequestKind) (side : Side) (head : List ℕ) (q : Request) (payload : List ℕ) (error : ReplyError) (bytes : List ℕ) (old new : DiskState) (source rest : SourceState) (sink : SinkState)
-    (result : Result (Unit {0}) End) (after : SinkState) (denied : Bool) → length head ≡ 28 → request_in head ≡ Some q → request_kind q.code ≡ kind
-    → denied ≡ denied_by kind error
+    (result : Result (Unit {0}) End) (after : SinkState) (denied : Option Denial) → length head ≡ 28 → request_in head ≡ Some q → request_kind q.code ≡ kind
+    → denied ≡ denial_by kind error q.offset
     → ServesKind kind side (record { head = head; request = q; payload = payload; error = error; bytes = bytes; next = new }) old
     → SourceGave (head ++ payload) source rest → GivesBytes (reply_head error q.cookie ++ bytes) sink result after → ServesRequest side old new source rest sink result after denied
 one kind side head q payload error bytes old new source rest sink result after denied long reads is noted serves took gives =
@@ -126,7 +128,7 @@ one kind side head q payload error bytes old new source rest sink result after d
       next = refl;
       took = took;
       gives = gives;
-      noted = subst (λ (j : RequestKind). denied ≡ denied_by j error) (sym is) noted;
+      noted = subst (λ (j : RequestKind). denied ≡ denial_by j error q.offset) (sym is) noted;
     })
 
 -- if a request is cut, the source ended or failed
@@ -136,13 +138,13 @@ cut_stops ReadFault taken bytes source middle rest later cut h = (cut, omega (ar
 cut_stops WriteFault taken bytes source middle rest later cut h = absurd h
 cut_stops Malformed taken bytes source middle rest later cut h = absurd h
 
-none : (end : End) (taken : List ℕ) (old new : DiskState) (source rest : SourceState) (sink : SinkState) (result : Result (Unit {0}) End) (after : SinkState) (denied : Bool) → result ≡ Err end
-    → SourceGave taken source rest → Stops (Err end) taken source rest → new ≡ old → after ≡ sink → denied ≡ false → ServesNone old new source rest sink result after denied
+none : (end : End) (taken : List ℕ) (old new : DiskState) (source rest : SourceState) (sink : SinkState) (result : Result (Unit {0}) End) (after : SinkState) (denied : Option Denial) → result ≡ Err end
+    → SourceGave taken source rest → Stops (Err end) taken source rest → new ≡ old → after ≡ sink → denied ≡ None → ServesNone old new source rest sink result after denied
 none end taken old new source rest sink result after denied why took stops disk silent noted =
     record { bytes = taken; took = took; stops = subst (λ (r : Result (Unit {0}) End). Stops r taken source rest) (sym why) stops; disk = disk; silent = silent; noted = noted }
 
 -- the bytes of a write didn't all come
-no_bytes : (side : Side) (head : List ℕ) (q : Request) (old new : DiskState) (source middle rest : SourceState) (sink : SinkState) (result : Result (Unit {0}) End) (after : SinkState) (denied : Bool)
+no_bytes : (side : Side) (head : List ℕ) (q : Request) (old new : DiskState) (source middle rest : SourceState) (sink : SinkState) (result : Result (Unit {0}) End) (after : SinkState) (denied : Option Denial)
     → length head ≡ 28 → request_in head ≡ Some q → request_kind q.code ≡ kinds.Write → SourceGave head source middle → WriteIsCut q old new middle rest sink result after denied
     → ServesRequest side old new source rest sink result after denied
 no_bytes side head q old new source middle rest sink result after denied long reads is took cut =
@@ -162,7 +164,7 @@ no_bytes side head q old new source middle rest sink result after denied long re
     inr (none cut.end (head ++ bytes) old new source rest sink result after denied cut.why (SourceGave-then took part.gave)
     (cut_stops cut.end (head ++ bytes) cut.bytes source middle rest took.later (inr lacks) cut.fills) cut.disk cut.silent cut.noted)
 
-by-kind : (kind : RequestKind) (side : Side) (head : List ℕ) (q : Request) (old new : DiskState) (source middle rest : SourceState) (sink : SinkState) (result : Result (Unit {0}) End) (after : SinkState) (denied : Bool)
+by-kind : (kind : RequestKind) (side : Side) (head : List ℕ) (q : Request) (old new : DiskState) (source middle rest : SourceState) (sink : SinkState) (result : Result (Unit {0}) End) (after : SinkState) (denied : Option Denial)
     → length head ≡ 28 → request_in head ≡ Some q → request_kind q.code ≡ kind → SourceGave head source middle → KindIsServed kind side q old new middle rest sink result after denied
     → ServesRequest side old new source rest sink result after denied
 by-kind kinds.Read side head q old new source middle rest sink result after denied long reads is took h =
@@ -190,7 +192,7 @@ by-kind kinds.Unknown side head q old new source middle rest sink result after d
 by-kind kinds.Disconnect side head q old new source middle rest sink result after denied long reads is took h =
     inr (none Closed head old new source rest sink result after denied h.0 (SourceGave-nothing head took h.1) (inl (record { size = long; request = q; reads = reads; kind = is })) h.2 h.3 h.4)
 
-pub request_served : (side : Side) (head : List ℕ) (q : Request) (old new : DiskState) (source middle rest : SourceState) (sink : SinkState) (result : Result (Unit {0}) End) (after : SinkState) (denied : Bool)
+pub request_served : (side : Side) (head : List ℕ) (q : Request) (old new : DiskState) (source middle rest : SourceState) (sink : SinkState) (result : Result (Unit {0}) End) (after : SinkState) (denied : Option Denial)
     → length head ≡ 28 → request_in head ≡ Some q → SourceGave head source middle → KindIsServed (request_kind q.code) side q old new middle rest sink result after denied
     → ServesRequest side old new source rest sink result after denied
 request_served side head q old new source middle rest sink result after denied long reads took h =
@@ -198,16 +200,16 @@ request_served side head q old new source middle rest sink result after denied l
 
 -- 28 bytes that aren't a request
 pub no_request : (head : List ℕ) (d : DiskState) (source rest : SourceState) (sink : SinkState) → length head ≡ 28 → request_in head ≡ None → SourceGave head source rest
-    → ServesNone d d source rest sink (Err Malformed) sink false
+    → ServesNone d d source rest sink (Err Malformed) sink None
 no_request head d source rest sink long reads took =
-    none Malformed head d d source rest sink (Err Malformed) sink false refl took
+    none Malformed head d d source rest sink (Err Malformed) sink None refl took
     (record { size = long; none = λ request same. absurd (none-some request (sym reads ∙ same)) }) refl refl refl
 
 -- the head of a request didn't come
 pub no_head : (end : End) (head : List ℕ) (d : DiskState) (source rest : SourceState) (sink : SinkState) → length head ≡ 28 → Fills head source (Err end) rest
-    → ServesNone d d source rest sink (Err end) sink false
+    → ServesNone d d source rest sink (Err end) sink None
 no_head end head d source rest sink long h =
     let part = part_filled end head source rest h in
     let bytes : List ℕ = take part.count head in
-    none end bytes d d source rest sink (Err end) sink false refl part.gave
+    none end bytes d d source rest sink (Err end) sink None refl part.gave
     (cut_stops end bytes head source source rest (omega arith) (inl (fewer 28 part.count head long part.within)) h) refl refl refl

@@ -137,21 +137,6 @@ pub record IsRequest (x : Exchange) : Type 0 where
 abbrev pub ServesExchange : Side → Exchange → DiskState → Type 0
 ServesExchange side x old = IsRequest x × ServesKind (request_kind x.request.code) side x old
 
--- an error by which a client knows that not all was done
-abbrev pub is_error : ReplyError → Bool
-is_error Done = false
-is_error error = true
-
--- whether a request was to change or to flush the disk, and was answered with an error
-abbrev pub denied_by : RequestKind → ReplyError → Bool
-denied_by kinds.Write error = is_error error
-denied_by kinds.WriteZeroes error = is_error error
-denied_by kinds.Flush error = is_error error
-denied_by kind error = false
-
-abbrev pub is_denied : Exchange → Bool
-is_denied x = denied_by (request_kind x.request.code) x.error
-
 -- the bytes of the reply
 abbrev pub reply_of : Exchange → List ℕ
 reply_of x = reply_head x.error x.request.cookie ++ x.bytes

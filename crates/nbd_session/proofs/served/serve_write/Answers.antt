@@ -28,7 +28,7 @@ returns-clause-serves g c =
       writes = written_there (side_of p) q ys (take q.length (drop (q.offset % p.keying.sectorsize) (put_mid start (start + q.length - start) room ys))) c.write-error.result
           (g.D.Disk.state p.disk) (g.D.Disk.state c.write-error.new.provider.disk) there c.write-error.ensures.writes;
       gives = c.answer.ensures.gives;
-      noted = c.is_error.ensures;
+      noted = c.denial_where-denied.ensures;
     })
 
 pub returns-in-Err-clause-serves : goal.returns-in-Err-clause-serves

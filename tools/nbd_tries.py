@@ -132,7 +132,7 @@ def full():
         os.remove("status")
     handle = connected()
     at = 0
-    while not is_refused(errno.EIO, handle.pwrite, bytes([at // 65536 % 251]) * 65536, at):
+    while not is_refused(errno.ENOSPC, handle.pwrite, bytes([at // 65536 % 251]) * 65536, at):
         at += 65536
         assert at < handle.get_size()
     for before in range(0, at, 65536):

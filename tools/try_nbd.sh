@@ -296,7 +296,7 @@ case_full() { # a full disk
     mkdir small && mount -t tmpfs -o size=2M small small 2>errors ||
         { echo "not tried: $case (no mount of a tmpfs)"; return; }
     provider small/a.img 8M -s 4096
-    says "a full disk: EIO, and the rest is served" tries full IMAGE=small/a.img
+    says "a full disk: ENOSPC, and the rest is served" tries full IMAGE=small/a.img
     says "  with status 1" test "$(cat status)" = 1
     umount small
 }

@@ -8,7 +8,7 @@ use Rattle.nbd_session.specs.declared.denials.Denials.{Denials}
 use Rattle.nbd_session.specs.declared.denials.DeniedKind.{DeniedKind}
 use Rattle.nbd_session.specs.declared.denials.DeniedKind.TheVariants.{Write, Zeros, Flush}
 use Rattle.nbd_words.specs.declared.transmission.ReplyError.{ReplyError}
-use Rattle.nbd_words.specs.declared.transmission.ReplyError.TheVariants.{Done, ReadOnly, Failed, Invalid, PassesEnd}
+use Rattle.nbd_words.specs.declared.transmission.ReplyError.TheVariants.{Done, ReadOnly, Failed, Invalid, PassesEnd, NoRoom}
 
 -- what was to be done
 abbrev pub kind_words : DeniedKind → List ℕ
@@ -29,6 +29,7 @@ cause_words ReadOnly = codes "read-only"
 cause_words Failed = codes "input or output error"
 cause_words Invalid = codes "invalid request"
 cause_words PassesEnd = codes "past the end"
+cause_words NoRoom = codes "no space left on the device"
 
 abbrev pub flush_words : Bool → List ℕ
 flush_words true = codes "made"

@@ -153,6 +153,7 @@ fn cause_words(error: ReplyError) -> &'static [u8]
         ReplyError::Failed => b"input or output error",
         ReplyError::Invalid => b"invalid request",
         ReplyError::PassesEnd => b"past the end",
+        ReplyError::NoRoom => b"no space left on the device",
     }
 }
 

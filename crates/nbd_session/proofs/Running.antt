@@ -1,5 +1,5 @@
 -- Requests that are served one after another.
-use Rattle.std.proofs.Common.{◌≡◌, ◌∙◌, inl, inr, Option, Some, None, ℕ, ◌+◌, ◌-◌, ◌^◌, ◌<◌, ◌≤◌, List, [], ◌∷◌, ◌++◌, map, Result, Ok, Err, refl, ap, sym, subst, arith, append-nil, length, length-append}
+use Rattle.std.proofs.Common.{Bool, ◌≡◌, ◌∙◌, inl, inr, Option, Some, None, ℕ, ◌+◌, ◌-◌, ◌^◌, ◌<◌, ◌≤◌, List, [], ◌∷◌, ◌++◌, map, Result, Ok, Err, refl, ap, sym, subst, arith, append-nil, length, length-append}
 use Rattle.std.proofs.lemmas.Grind.{flat_map-append}
 use Rattle.std.specs.List.{concat, flat_map}
 use Rattle.block_traits.specs.Disk.{DiskState}
@@ -44,9 +44,9 @@ noted-more : (xs : List Exchange) (x : Exchange) (before : Denials) (denied : Op
 noted-more xs x before denied so one =
     ap (λ (d : Denials). with_denied d denied) so ∙ ap (with_denied (denials_in xs)) one ∙ sym (tally-more no_denials xs x)
 
-more-served : (done : Unit {0}) (side : Side) (n : ℕ) (old middle new : DiskState) (source between rest : SourceState) (sink halfway after : SinkState) (before : Denials) (denied : Option Denial) → ServedSoFar side n old middle source between sink halfway before
-    → ServesOne side middle new between rest halfway (Ok done) after denied → ServedSoFar side (n + 1) old new source rest sink after (with_denied before denied)
-more-served done side n old middle new source between rest sink halfway after before denied so one = record {
+more-served : (done : Unit {0}) (side : Side) (wanting : Bool) (n : ℕ) (old middle new : DiskState) (source between rest : SourceState) (sink halfway after : SinkState) (before : Denials) (denied : Option Denial) → ServedSoFar side n old middle source between sink halfway before
+    → ServesOne side wanting middle new between rest halfway (Ok done) after denied → ServedSoFar side (n + 1) old new source rest sink after (with_denied before denied)
+more-served done side wanting n old middle new source between rest sink halfway after before denied so one = record {
   exchanges = so.exchanges ++ one.exchange ∷ [];
   count = omega (arith, so.count, length-append so.exchanges (one.exchange ∷ []));
   served = all-served side so.exchanges one.exchange old middle new so.served one.serves one.next;
@@ -55,10 +55,10 @@ more-served done side n old middle new source between rest sink halfway after be
   noted = noted-more so.exchanges one.exchange before denied so.noted one.noted;
 }
 
-served-next : (done : Unit {0}) (side : Side) (n : ℕ) (old middle new : DiskState) (source between rest : SourceState) (sink halfway after : SinkState) (before : Denials) (denied : Option Denial) → ServedSoFar side n old middle source between sink halfway before
-    → ServesRequest side middle new between rest halfway (Ok done) after denied → ServedSoFar side (n + 1) old new source rest sink after (with_denied before denied)
-served-next done side n old middle new source between rest sink halfway after before denied so h =
-    elim h [ inl one ↦ more-served done side n old middle new source between rest sink halfway after before denied so one | inr none ↦ absurd none.stops ]
+served-next : (done : Unit {0}) (side : Side) (wanting : Bool) (n : ℕ) (old middle new : DiskState) (source between rest : SourceState) (sink halfway after : SinkState) (before : Denials) (denied : Option Denial) → ServedSoFar side n old middle source between sink halfway before
+    → ServesRequest side wanting middle new between rest halfway (Ok done) after denied → ServedSoFar side (n + 1) old new source rest sink after (with_denied before denied)
+served-next done side wanting n old middle new source between rest sink halfway after before denied so h =
+    elim h [ inl one ↦ more-served done side wanting n old middle new source between rest sink halfway after before denied so one | inr none ↦ absurd none.stops ]
 
 noted-on : (xs : List Exchange) (before : Denials) (denied : Option Denial) → before ≡ denials_in xs → denied ≡ None → with_denied before denied ≡ denials_in xs
 noted-on xs before denied so none = ap (with_denied before) none ∙ so
@@ -88,11 +88,11 @@ stops-run Malformed side n old middle new source between rest sink halfway after
     stops-by Malformed side n old middle new source between rest sink halfway after before denied so none (λ texts all. all) none.stops
 
 -- the last was served, and its reply couldn't be given
-fails-run : (end : End) (side : Side) (n : ℕ) (old middle new : DiskState) (source between rest : SourceState) (sink halfway after : SinkState) (before : Denials) (denied : Option Denial) → ServedSoFar side n old middle source between sink halfway before
-    → ServesOne side middle new between rest halfway (Err end) after denied → ServesRun side old new source rest sink end after (with_denied before denied)
-fails-run Closed side n old middle new source between rest sink halfway after before denied so one = absurd one.gives
-fails-run ReadFault side n old middle new source between rest sink halfway after before denied so one = absurd one.gives
-fails-run WriteFault side n old middle new source between rest sink halfway after before denied so one =
+fails-run : (end : End) (side : Side) (wanting : Bool) (n : ℕ) (old middle new : DiskState) (source between rest : SourceState) (sink halfway after : SinkState) (before : Denials) (denied : Option Denial) → ServedSoFar side n old middle source between sink halfway before
+    → ServesOne side wanting middle new between rest halfway (Err end) after denied → ServesRun side old new source rest sink end after (with_denied before denied)
+fails-run Closed side wanting n old middle new source between rest sink halfway after before denied so one = absurd one.gives
+fails-run ReadFault side wanting n old middle new source between rest sink halfway after before denied so one = absurd one.gives
+fails-run WriteFault side wanting n old middle new source between rest sink halfway after before denied so one =
     let all : List Exchange = so.exchanges ++ one.exchange ∷ [] in
     record {
       exchanges = all;
@@ -103,27 +103,27 @@ fails-run WriteFault side n old middle new source between rest sink halfway afte
       why = (omega (arith, length-append so.exchanges (one.exchange ∷ [])), refl);
       noted = noted-more so.exchanges one.exchange before denied so.noted one.noted;
     }
-fails-run Malformed side n old middle new source between rest sink halfway after before denied so one = absurd one.gives
+fails-run Malformed side wanting n old middle new source between rest sink halfway after before denied so one = absurd one.gives
 
 side_same : {D : Type 0} (p q : Attached D) → IsKept p q → side_of q ≡ side_of p
 side_same p q kept = λ i. record { keying = kept.keying i; readonly = kept.readonly i }
 
-pub next_by : {D : Type 0} (done : Unit {0}) (p q : Attached D) (n : ℕ) (old middle new : DiskState) (source between rest : SourceState) (sink halfway after : SinkState) (before all : Denials) (denied : Option Denial) (result : Result (Unit {0}) End) → IsKept p q
+pub next_by : {D : Type 0} (done : Unit {0}) (p q : Attached D) (wanting : Bool) (n : ℕ) (old middle new : DiskState) (source between rest : SourceState) (sink halfway after : SinkState) (before all : Denials) (denied : Option Denial) (result : Result (Unit {0}) End) → IsKept p q
     → ServedSoFar (side_of p) n old middle source between sink halfway before → result ≡ Ok done → all ≡ with_denied before denied
-    → ServesRequest (side_of q) middle new between rest halfway result after denied → ServedSoFar (side_of p) (n + 1) old new source rest sink after all
-next_by done p q n old middle new source between rest sink halfway after before all denied result kept so is same h =
+    → ServesRequest (side_of q) wanting middle new between rest halfway result after denied → ServedSoFar (side_of p) (n + 1) old new source rest sink after all
+next_by done p q wanting n old middle new source between rest sink halfway after before all denied result kept so is same h =
     subst (λ (d : Denials). ServedSoFar (side_of p) (n + 1) old new source rest sink after d) (sym same)
-    (served-next done (side_of p) n old middle new source between rest sink halfway after before denied so (subst (λ (r : Result (Unit {0}) End). ServesRequest (side_of p) middle new between rest halfway r after denied) is
-    (subst (λ (s : Side). ServesRequest s middle new between rest halfway result after denied) (side_same p q kept) h)))
+    (served-next done (side_of p) wanting n old middle new source between rest sink halfway after before denied so (subst (λ (r : Result (Unit {0}) End). ServesRequest (side_of p) wanting middle new between rest halfway r after denied) is
+    (subst (λ (s : Side). ServesRequest s wanting middle new between rest halfway result after denied) (side_same p q kept) h)))
 
-pub ends_by : {D : Type 0} (p q : Attached D) (end : End) (n : ℕ) (old middle new : DiskState) (source between rest : SourceState) (sink halfway after : SinkState) (before all : Denials) (denied : Option Denial) (result : Result (Unit {0}) End) → IsKept p q
+pub ends_by : {D : Type 0} (p q : Attached D) (wanting : Bool) (end : End) (n : ℕ) (old middle new : DiskState) (source between rest : SourceState) (sink halfway after : SinkState) (before all : Denials) (denied : Option Denial) (result : Result (Unit {0}) End) → IsKept p q
     → ServedSoFar (side_of p) n old middle source between sink halfway before → result ≡ Err end → all ≡ with_denied before denied
-    → ServesRequest (side_of q) middle new between rest halfway result after denied → ServesRun (side_of p) old new source rest sink end after all
-ends_by p q end n old middle new source between rest sink halfway after before all denied result kept so is same h =
+    → ServesRequest (side_of q) wanting middle new between rest halfway result after denied → ServesRun (side_of p) old new source rest sink end after all
+ends_by p q wanting end n old middle new source between rest sink halfway after before all denied result kept so is same h =
     subst (λ (d : Denials). ServesRun (side_of p) old new source rest sink end after d) (sym same)
-    (elim (subst (λ (r : Result (Unit {0}) End). ServesRequest (side_of p) middle new between rest halfway r after denied) is
-    (subst (λ (s : Side). ServesRequest s middle new between rest halfway result after denied) (side_same p q kept) h)) [
-      | inl one ↦ fails-run end (side_of p) n old middle new source between rest sink halfway after before denied so one
+    (elim (subst (λ (r : Result (Unit {0}) End). ServesRequest (side_of p) wanting middle new between rest halfway r after denied) is
+    (subst (λ (s : Side). ServesRequest s wanting middle new between rest halfway result after denied) (side_same p q kept) h)) [
+      | inl one ↦ fails-run end (side_of p) wanting n old middle new source between rest sink halfway after before denied so one
       | inr none ↦ stops-run end (side_of p) n old middle new source between rest sink halfway after before denied so none
     ])
 

@@ -4,12 +4,12 @@ ghost use Rattle.provider.specs.Attached.{IsKept};
 ghost use Rattle.byte_ranges.specs.Ranges.{skipped};
 ghost use Rattle.nbd_words.specs.Transmission.{reply_head, request_kind};
 ghost use Rattle.nbd_negotiation.specs.Streams.{GivesBytes};
-ghost use Rattle.nbd_session.specs.Requests.{AnswersFlush, AnswersWrite, HasKnownFlags, HasUnknownFlags, IsIllFormedRequest, IsRefusedRead, IsRefusedWrite, IsWellFormedRequest, MayRead, MayWrite, range_of, side_of, zeros_of};
+ghost use Rattle.nbd_session.specs.Requests.{AnswersFlush, AnswersWrite, HasKnownFlags, HasUnknownFlags, IsIllFormedRequest, IsRefusedRead, IsRefusedWrite, IsWellFormedRequest, MayRead, MayWrite, write_error, range_of, side_of, zeros_of};
 ghost use Rattle.nbd_session.specs.Served.{FlushIsAnswered, KindIsServed, ReadIsAnswered, ServesRequest, WriteIsServed, ZerosAreAnswered};
 
 use crate::denials::{Denial, DeniedKind, denial_where};
 use block_traits::{Disk, Sink, Source};
-use byte_ranges::{ByteRange, cover_of, has_range, read_range, write_range};
+use byte_ranges::{ByteRange, Written, cover_of, has_range, read_range, write_range};
 use nbd_negotiation::{End, fill, give_all};
 use nbd_words::{
     REPLY_HEAD, ReplyError, Request, RequestKind, flags_limit, has_fua, reply_head, request_in,
@@ -31,7 +31,7 @@ pub fn serve_request<D: Disk, S: Source, K: Sink>(
 ) -> (Result<(), End>, Option<Denial>)
     requires room { length room.old ≡ 33685520 }
     requires edge { length edge.old ≡ 65536 }
-    ensures serves { ServesRequest (side_of provider.old) (D.state provider.old.disk) (D.state provider.new.disk)
+    ensures serves { ServesRequest (side_of provider.old) (D.wants_room provider.new.disk) (D.state provider.old.disk) (D.state provider.new.disk)
         (S.state input.old) (S.state input.new) (K.state output.old) result.0 (K.state output.new) result.1 }
     ensures kept { IsKept provider.old provider.new }
 {
@@ -56,7 +56,7 @@ fn serve_by_kind<D: Disk, S: Source, K: Sink>(
 ) -> (Result<(), End>, Option<Denial>)
     requires room { length room.old ≡ 33685520 }
     requires edge { length edge.old ≡ 65536 }
-    ensures serves { KindIsServed (request_kind request.now.code) (side_of provider.old) request.now (D.state provider.old.disk) (D.state provider.new.disk)
+    ensures serves { KindIsServed (request_kind request.now.code) (side_of provider.old) (D.wants_room provider.new.disk) request.now (D.state provider.old.disk) (D.state provider.new.disk)
         (S.state input.old) (S.state input.new) (K.state output.old) result.0 (K.state output.new) result.1 }
     ensures kept { IsKept provider.old provider.new }
 {
@@ -219,7 +219,7 @@ fn serve_write<D: Disk, S: Source, K: Sink>(
     requires room { length room.old ≡ 33685520 }
     requires edge { length edge.old ≡ 65536 }
     requires few { request.now.length ≤ 33554432 }
-    ensures serves { WriteIsServed (side_of provider.old) request.now (D.state provider.old.disk) (D.state provider.new.disk)
+    ensures serves { WriteIsServed (side_of provider.old) (D.wants_room provider.new.disk) request.now (D.state provider.old.disk) (D.state provider.new.disk)
         (S.state input.old) (S.state input.new) (K.state output.old) result.0 (K.state output.new) result.1 }
     ensures kept { IsKept provider.old provider.new }
 {
@@ -260,7 +260,7 @@ fn write<D: Disk>(
 ) -> ReplyError
     requires room { length room.old ≡ 33685520 }
     requires edge { length edge.old ≡ 65536 }
-    ensures writes { AnswersWrite (side_of provider.old) request.now (take request.now.length (drop (skipped provider.old.keying (range_of request.now)) room.old)) result
+    ensures writes { AnswersWrite (side_of provider.old) (D.wants_room provider.new.disk) request.now (take request.now.length (drop (skipped provider.old.keying (range_of request.now)) room.old)) result
         (D.state provider.old.disk) (D.state provider.new.disk) }
     ensures kept { IsKept provider.old provider.new }
 {
@@ -280,7 +280,7 @@ fn write_room<D: Disk>(
     requires room { length room.old ≡ 33685520 }
     requires edge { length edge.old ≡ 65536 }
     requires may { MayWrite (side_of provider.old) (D.state provider.old.disk) request.now }
-    ensures writes { AnswersWrite (side_of provider.old) request.now (take request.now.length (drop (skipped provider.old.keying (range_of request.now)) room.old)) result
+    ensures writes { AnswersWrite (side_of provider.old) (D.wants_room provider.new.disk) request.now (take request.now.length (drop (skipped provider.old.keying (range_of request.now)) room.old)) result
         (D.state provider.old.disk) (D.state provider.new.disk) }
     ensures kept { IsKept provider.old provider.new }
 {
@@ -288,10 +288,26 @@ fn write_room<D: Disk>(
     let cover = cover_of(request.offset, request.length as usize, size);
     let sectors = &mut room[..cover.whole];
     let flush = has_fua(request.flags);
-    if !write_range(provider, sectors, edge, &range_of(request), &cover, flush) {
-        return ReplyError::Failed;
+    let written = write_range(provider, sectors, edge, &range_of(request), &cover, flush);
+    let wanting = provider.wants_room();
+    write_error(written, wanting)
+}
+
+// The reply to a write, by what became of it and whether room was wanting at the disk's last failed write.
+fn write_error(written: Written, wanting: bool) -> ReplyError
+    ensures { result ≡ write_error written wanting }
+{
+    match written {
+        Written::Whole => ReplyError::Done,
+        Written::WriteFailed => {
+            if wanting {
+                ReplyError::NoRoom
+            } else {
+                ReplyError::Failed
+            }
+        }
+        Written::EdgeUnread | Written::FlushFailed => ReplyError::Failed,
     }
-    ReplyError::Done
 }
 
 // Serves a request for zeros, after which no bytes come.
@@ -304,7 +320,7 @@ fn serve_zeros<D: Disk, K: Sink>(
 ) -> (Result<(), End>, Option<Denial>)
     requires room { length room.old ≡ 33685520 }
     requires edge { length edge.old ≡ 65536 }
-    ensures answers { ZerosAreAnswered (side_of provider.old) request.now (D.state provider.old.disk) (D.state provider.new.disk) (K.state output.old) result.0 (K.state output.new) result.1 }
+    ensures answers { ZerosAreAnswered (side_of provider.old) (D.wants_room provider.new.disk) request.now (D.state provider.old.disk) (D.state provider.new.disk) (K.state output.old) result.0 (K.state output.new) result.1 }
     ensures kept { IsKept provider.old provider.new }
 {
     let error = write_zeros(provider, room, edge, request);
@@ -321,7 +337,7 @@ fn write_zeros<D: Disk>(
 ) -> ReplyError
     requires room { length room.old ≡ 33685520 }
     requires edge { length edge.old ≡ 65536 }
-    ensures writes { AnswersWrite (side_of provider.old) request.now (zeros_of request.now) result (D.state provider.old.disk) (D.state provider.new.disk) }
+    ensures writes { AnswersWrite (side_of provider.old) (D.wants_room provider.new.disk) request.now (zeros_of request.now) result (D.state provider.old.disk) (D.state provider.new.disk) }
     ensures kept { IsKept provider.old provider.new }
 {
     if let Some(error) = write_refusal(provider, request) {

@@ -108,12 +108,12 @@ pub(crate) fn made(
 }
 
 // The provider that was made of a disk, attached.
-pub(crate) fn attached(
+pub(crate) fn attached<D: Disk + Drop>(
     alloc: Global,
-    disk: MemDisk,
+    disk: D,
     meta: &Metadata,
     readonly: bool,
-) -> Result<Provider<MemDisk>, Fail> {
+) -> Result<Provider<D>, Fail> {
     let key = derive(&components(alloc)?, &meta.salt, meta.iterations)?;
     let Ok(params) = check(meta) else {
         return Err(Fail::from("the metadata aren't good"));

@@ -9,7 +9,7 @@ returns-in-Err-clause-serves g c =
     let disk = g.D.Disk.state in
     let source = g.S.Source.state in
     let sink = g.K.Sink.state in
-    ends_by c.args.provider.now c.many.provider c.in-Err.end c.many.many (disk c.args.provider.now.disk) (disk c.many.provider.disk) (disk c.serve_request-answered.new.provider.disk)
+    ends_by c.args.provider.now c.many.provider (g.D.Disk.wants_room c.serve_request-answered.new.provider.disk) c.in-Err.end c.many.many (disk c.args.provider.now.disk) (disk c.many.provider.disk) (disk c.serve_request-answered.new.provider.disk)
     (source c.args.input.now) (source c.many.input) (source c.serve_request-answered.new.input) (sink c.args.output.now) (sink c.many.output) (sink c.serve_request-answered.new.output) c.many.denied c.with_denied-denied.result c.serve_request-answered.result.1 c.serve_request-answered.result.0
     c.many.invariant.kept c.many.invariant.served c.in-Err.is c.with_denied-denied.ensures c.serve_request-answered.ensures.serves
 
@@ -22,7 +22,7 @@ many-preserved g c =
       room = c.serve_request-answered.auto.room ∙ c.many.invariant.room;
       edge = c.serve_request-answered.auto.edge ∙ c.many.invariant.edge;
       kept = kept_on c.many.invariant.kept c.serve_request-answered.ensures.kept;
-      served = next_by c.in_default.field-0 c.args.provider.now c.many.provider c.many.many (disk c.args.provider.now.disk) (disk c.many.provider.disk) (disk c.serve_request-answered.new.provider.disk)
+      served = next_by c.in_default.field-0 c.args.provider.now c.many.provider (g.D.Disk.wants_room c.serve_request-answered.new.provider.disk) c.many.many (disk c.args.provider.now.disk) (disk c.many.provider.disk) (disk c.serve_request-answered.new.provider.disk)
           (source c.args.input.now) (source c.many.input) (source c.serve_request-answered.new.input) (sink c.args.output.now) (sink c.many.output) (sink c.serve_request-answered.new.output) c.many.denied c.with_denied-denied.result c.serve_request-answered.result.1 c.serve_request-answered.result.0
           c.many.invariant.kept c.many.invariant.served c.in_default.is c.with_denied-denied.ensures c.serve_request-answered.ensures.serves;
     }

@@ -9,6 +9,7 @@ import errno
 import hashlib
 import os
 import random
+import select
 import signal
 import socket
 import struct
@@ -131,7 +132,7 @@ def full():
         os.remove("status")
     handle = connected()
     at = 0
-    while not is_refused(errno.EIO, handle.pwrite, bytes([at // 65536 % 251]) * 65536, at):
+    while not is_refused(errno.ENOSPC, handle.pwrite, bytes([at // 65536 % 251]) * 65536, at):
         at += 65536
         assert at < handle.get_size()
     for before in range(0, at, 65536):
@@ -140,6 +141,107 @@ def full():
     handle.flush()
     assert handle.pread(65536, 0) == b"y" * 65536
     assert ended(handle) == 1
+
+
+class Waiting:
+    """A client that sends nothing until it has its reply."""
+
+    def __init__(self, stderr=None):
+        words = [os.environ["GELI_NBD"], *WORDS, os.environ["IMAGE"]]
+        self.server = subprocess.Popen(words, stdin=subprocess.PIPE, stdout=subprocess.PIPE, stderr=stderr, bufsize=0)
+
+    def send(self, *pieces):
+        """Sends a message in pieces, each some time after the one before."""
+        for at, piece in enumerate(pieces):
+            time.sleep(0.1 if at else 0)
+            self.server.stdin.write(piece)
+
+    def get(self, count):
+        """So many bytes, of which each comes within a minute; nothing follows them at once."""
+        got = b""
+        while len(got) < count:
+            assert select.select([self.server.stdout], [], [], 60)[0], f"{count} bytes are due, {len(got)} came"
+            more = os.read(self.server.stdout.fileno(), count - len(got))
+            assert more, f"it ended where {count} bytes were due"
+            got += more
+        assert not select.select([self.server.stdout], [], [], 0.05)[0], "more came than was due"
+        return got
+
+    def reply(self, *pieces):
+        """The error of the reply to a request."""
+        self.send(*pieces)
+        magic, error, _ = struct.unpack(">IIQ", self.get(16))
+        assert magic == REPLY
+        return error
+
+
+def waiting():
+    """Each reply comes before the next message is sent: of the negotiation, of each kind of request, and of a write
+    whose bytes come late."""
+    client = Waiting()
+    client.get(18)
+    client.send(b"\0\0\0\3")
+    for asks, count in (option(8), 20), (option(LIST), 44), (option(INFO, bytes(6)), 86), (option(GO, bytes(6)), 86):
+        client.send(asks)
+        client.get(count)
+    data = random.randbytes(9000)
+    head = asked(WRITE, 0, 777, len(data))
+    assert client.reply(head, data[:1], data[1:5000], data[5000:]) == 0
+    client.send(asked(READ, 0, 777, len(data)))
+    assert client.get(16 + len(data))[16:] == data
+    head = asked(WRITE, FUA, 777, 512)
+    assert client.reply(head[:20], head[20:] + data[:100], data[100:512]) == 0
+    assert client.reply(asked(FLUSH, 0, 0, 0)) == 0
+    assert client.reply(asked(ZEROES, 0, 0, 4096)) == 0
+    assert client.reply(asked(TRIM, 0, 0, 4096)) == errno.EINVAL
+    assert client.reply(asked(77, 0, 0, 4096)) == errno.EINVAL
+    assert client.reply(asked(READ, 0, 1 << 60, 1)) == errno.EINVAL
+    client.send(asked(DISC, 0, 0, 0))
+    assert client.server.wait(60) == 0
+
+
+def ran_on(said, prefix=()):
+    """The status of geli-nbd for a client that says this and goes away, and what it says itself."""
+    ran = subprocess.run([*prefix, os.environ["GELI_NBD"], *WORDS, os.environ["IMAGE"]], input=said,
+                         stdout=subprocess.DEVNULL, stderr=subprocess.PIPE, check=False, timeout=120)
+    return ran.returncode, ran.stderr.decode()
+
+
+def ends():
+    """A session that was refused something ends with 1, however its client goes, and says what it was."""
+    begins = b"\0\0\0\3" + option(GO, bytes(6))
+    past = 1 << 40
+    refused = begins + asked(WRITE, 0, past, 5, b"12345") + asked(ZEROES, 0, past, 4096) + asked(FLUSH, 2, 0, 0)
+    words = end_words(1, 1, 1, f"write at {past}, past the end")
+    garbage, too_long, cut = bytes(28), asked(WRITE, 0, 0, MOST + 1), asked(WRITE, 0, 0, 512, bytes(100))
+    for tail, status in (asked(DISC, 0, 0, 0), 0), (b"", 0), (garbage[:5], 0), (cut, 0), (garbage, 6), (too_long, 6):
+        assert ran_on(begins + tail) == (status, ""), tail[:28]
+        assert ran_on(refused + tail) == (1, words), tail[:28]
+    assert ran_on(begins + asked(FLUSH, 2, 0, 0)) == (1, end_words(0, 0, 1, "flush, invalid request"))
+
+
+def goes_early():
+    """A client that goes away before the reply to a request that is refused: the status is 1 and not 4."""
+    for offset, status in (0, 4), (1 << 40, 1):
+        client = Waiting(stderr=subprocess.PIPE)
+        client.get(18)
+        client.send(b"\0\0\0\3" + option(GO, bytes(6)))
+        client.get(86)
+        client.server.stdout.close()
+        client.send(asked(WRITE, 0, offset, 5, b"12345"))
+        said = client.server.stderr.read().decode()
+        assert said == (end_words(1, 0, 0, f"write at {offset}, past the end") if status == 1 else ""), said
+        assert client.server.wait(60) == status
+
+
+def last_flush_fails():
+    """A last flush that fails: the status is 1, which is said, however the client goes."""
+    prefix = ["strace", "-f", "-o", "/dev/null", "-e", "inject=fsync,fdatasync:error=EIO"]
+    begins = b"\0\0\0\3" + option(GO, bytes(6)) + asked(WRITE, 0, 0, 5, b"12345")
+    for tail in asked(DISC, 0, 0, 0), b"", bytes(28):
+        assert ran_on(begins + tail, prefix) == (1, end_words(0, 0, 0, None, "failed"))
+    said = begins + asked(FLUSH, 0, 0, 0)
+    assert ran_on(said, prefix) == (1, end_words(0, 0, 1, "flush, input or output error", "failed"))
 
 
 def content():
@@ -202,13 +304,19 @@ def killed():
     print(f"  {answered} writes were answered")
 
 
+def end_words(writes, zeros, flushes, first, last="made"):
+    """What geli-nbd says at its end."""
+    first = f"first refused: {first}\n" if first else ""
+    return f"refused: writes {writes}, zeros {zeros}, flushes {flushes}\n{first}last flush: {last}\n"
+
+
 class Client:
     """A reader of a client's bytes by doc/proto.md: what a server does with them."""
 
     def __init__(self, said, model):
         self.said, self.at, self.model = said, 0, model
-        self.is_refused = self.is_malformed = False
-        self.wrote = 0
+        self.is_malformed = False
+        self.refused, self.first, self.wrote = {"write": 0, "zeros": 0, "flush": 0}, None, 0
         with contextlib.suppress(EOFError):
             if self.negotiated():
                 while self.request():
@@ -249,14 +357,24 @@ class Client:
         payload = self.take(count) if kind == WRITE else bytes(count if kind == ZEROES and count <= MOST else 0)
         most = FUA | NO_HOLE if kind == ZEROES else FUA
         if kind in (WRITE, ZEROES):
-            if flags <= most and 0 < count <= MOST and offset + count <= len(self.model):
+            if flags > most or not 0 < count <= MOST:
+                self.refuse("write" if kind == WRITE else "zeros", f" at {offset}, invalid request")
+            elif offset + count > len(self.model):
+                self.refuse("write" if kind == WRITE else "zeros", f" at {offset}, past the end")
+            else:
                 self.model[offset:offset + count] = payload
                 self.wrote += 1
-            else:
-                self.is_refused = True
         elif kind == FLUSH and flags > FUA:
-            self.is_refused = True
+            self.refuse("flush", ", invalid request")
         return True
+
+    def refuse(self, what, why):
+        self.refused[what] += 1
+        self.first = self.first or what + why
+
+    def words(self):
+        """What is said at the end of what was refused."""
+        return end_words(*self.refused.values(), self.first) if self.first else ""
 
 
 def has_shape(data):
@@ -334,9 +452,10 @@ def hostile():
         try:
             ran = subprocess.run([os.environ["GELI_NBD"], *WORDS, image], input=said, stdout=subprocess.PIPE,
                                  stderr=subprocess.PIPE, check=False, timeout=120)
-            wanted = 6 if client.is_malformed else int(client.is_refused)
+            wanted = 1 if client.first else 6 if client.is_malformed else 0
             assert ran.returncode == wanted, f"status {ran.returncode} where {wanted} was to come"
-            assert ran.stdout.startswith(b"NBDMAGICIHAVEOPT\0\3") and not ran.stderr
+            assert ran.stdout.startswith(b"NBDMAGICIHAVEOPT\0\3")
+            assert ran.stderr.decode() == client.words(), f"it said {ran.stderr}"
             if client.wrote:
                 assert content() == client.model, "other bytes are in it"
             else:

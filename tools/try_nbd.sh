@@ -93,6 +93,13 @@ case_words() {
     says "  whom it greets" test "$(xxd -p command.out)" = 4e42444d4147494349484156454f50540003
     printf '\0\0\0\100' >malformed
     says "what no client says: status 6" status_is 6 "$program" -p -k key a.img <malformed
+    export IMAGE=a.img
+    says "each reply comes before the next message" python3 -c 'import nbd_tries; nbd_tries.waiting()'
+    says "what was refused: status 1 however the client ends, and words" python3 -c 'import nbd_tries; nbd_tries.ends()'
+    says "  and if it goes before the reply" python3 -c 'import nbd_tries; nbd_tries.goes_early()'
+    if have strace; then
+        says "a last flush that fails: status 1, and words" python3 -c 'import nbd_tries; nbd_tries.last_flush_fails()'
+    fi
     says "an output that is closed: status 4" test "$("$program" -p -k key a.img </dev/null >&- 2>errors; echo $?)" = 4
 }
 
@@ -289,7 +296,7 @@ case_full() { # a full disk
     mkdir small && mount -t tmpfs -o size=2M small small 2>errors ||
         { echo "not tried: $case (no mount of a tmpfs)"; return; }
     provider small/a.img 8M -s 4096
-    says "a full disk: EIO, and the rest is served" tries full IMAGE=small/a.img
+    says "a full disk: ENOSPC, and the rest is served" tries full IMAGE=small/a.img
     says "  with status 1" test "$(cat status)" = 1
     umount small
 }

@@ -1,5 +1,5 @@
 -- Writes of ranges, from the sectors that they are spliced into.
-use Rattle.std.proofs.Common.{◌≡◌, ◌∙◌, inr, ℕ, ◌+◌, ◌≤◌, Bool, true, false, List, [], ◌++◌, length, take, drop, Err, sym, subst, arith}
+use Rattle.std.proofs.Common.{◌≡◌, ◌∙◌, ℕ, ◌+◌, ◌≤◌, Bool, true, false, List, [], ◌++◌, length, take, drop, Err, sym, subst, arith}
 use Rattle.std.proofs.lemmas.Bool.{false≢true}
 use Rattle.aes_core.specs.Schedule.{AreBytes}
 use Rattle.block_traits.specs.Disk.{DiskState, FailsIn, Logs}
@@ -12,9 +12,11 @@ use Rattle.sector_runs.specs.Writing.{data_writes}
 use Rattle.provider.specs.declared.faults.WriteFault.{WriteFault}
 use Rattle.provider.specs.declared.faults.WriteFault.TheVariants as write
 use Rattle.byte_ranges.specs.Ranges.{IsCoverOf}
-use Rattle.byte_ranges.specs.Writes.{IsWrittenInPart, IsWrittenWhole, LogsOrFails, SplicesInto, WritesRange, flush_events, range_writes}
+use Rattle.byte_ranges.specs.Writes.{FlushesWhere, IsWrittenInPart, IsWrittenWhole, SplicesInto, WritesRange, flush_events, range_writes}
 use Rattle.byte_ranges.specs.declared.cover.Cover.{Cover}
 use Rattle.byte_ranges.specs.declared.ranges.ByteRange.{ByteRange}
+use Rattle.byte_ranges.specs.declared.splices.Written.{Written}
+use Rattle.byte_ranges.specs.declared.splices.Written.TheVariants.{Whole, EdgeUnread, WriteFailed, FlushFailed}
 use Rattle.byte_ranges.proofs.Splicing.{whole_of}
 
 pub no_flush : (wanted : Bool) (d : DiskState) → wanted ≡ false → Logs (flush_events wanted) d d
@@ -84,10 +86,12 @@ part_flushed_by k other r flush cover bytes whole old middle third new same is s
     part_flushed k r flush cover bytes whole old middle third new is size are splices (subst (λ (key : Keying). Logs (data_writes key cover.first cover.count whole) middle third) same writes) fails
 
 -- what flushing says of a write whose sectors were written
-pub writes_by : (answer : Bool) (k other : Keying) (r : ByteRange) (flush : Bool) (cover : Cover) (bytes whole : List ℕ) (old middle third new : DiskState) → other ≡ k → IsCoverOf k r cover → length bytes ≡ cover.whole
-    → AreBytes whole → SplicesInto k r cover.skip bytes whole true old middle → Logs (data_writes other cover.first cover.count whole) middle third → LogsOrFails (flush_events flush) answer third new
+pub writes_by : (answer : Written) (k other : Keying) (r : ByteRange) (flush : Bool) (cover : Cover) (bytes whole : List ℕ) (old middle third new : DiskState) → other ≡ k → IsCoverOf k r cover → length bytes ≡ cover.whole
+    → AreBytes whole → SplicesInto k r cover.skip bytes whole true old middle → Logs (data_writes other cover.first cover.count whole) middle third → FlushesWhere flush answer third new
     → WritesRange k r flush (take r.count (drop cover.skip bytes)) answer old new
-writes_by true k other r flush cover bytes whole old middle third new same is size are splices writes flushes =
+writes_by Whole k other r flush cover bytes whole old middle third new same is size are splices writes flushes =
     wrote k r flush cover bytes whole old middle third new is size are splices (subst (λ (key : Keying). Logs (data_writes key cover.first cover.count whole) middle third) same writes) flushes
-writes_by false k other r flush cover bytes whole old middle third new same is size are splices writes fails =
-    inr (part_flushed_by k other r flush cover bytes whole old middle third new same is size are splices writes fails)
+writes_by FlushFailed k other r flush cover bytes whole old middle third new same is size are splices writes fails =
+    (fails.0, part_flushed_by k other r flush cover bytes whole old middle third new same is size are splices writes fails.1)
+writes_by EdgeUnread k other r flush cover bytes whole old middle third new same is size are splices writes fails = absurd fails
+writes_by WriteFailed k other r flush cover bytes whole old middle third new same is size are splices writes fails = absurd fails

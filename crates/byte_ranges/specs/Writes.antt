@@ -9,6 +9,8 @@ use Rattle.sector_runs.specs.Reading.{sector_reading}
 use Rattle.sector_runs.specs.Writing.{data_writes}
 use Rattle.byte_ranges.specs.Ranges.{IsEdge, IsSpliced, first_sector, sectors_covered}
 use Rattle.byte_ranges.specs.declared.ranges.ByteRange.{ByteRange}
+use Rattle.byte_ranges.specs.declared.splices.Written.{Written}
+use Rattle.byte_ranges.specs.declared.splices.Written.TheVariants.{Whole, EdgeUnread, WriteFailed, FlushFailed}
 
 -- a flush, if it is asked for
 abbrev pub flush_events : Bool → List Event
@@ -56,7 +58,17 @@ SplicesInto k r skip bytes whole true old new =
     Logs [] old new × (length whole ≡ length bytes) × Splices k r (take r.count (drop skip bytes)) whole old
 SplicesInto k r skip bytes whole false old new = CannotSplice k r old new
 
--- the write was made whole; or nothing was written, since an edge can't be read; or only its first part was
-abbrev pub WritesRange : Keying → ByteRange → Bool → List ℕ → Bool → DiskState → DiskState → Type 0
-WritesRange k r flush bytes true old new = IsWrittenWhole k r flush bytes old new
-WritesRange k r flush bytes false old new = CannotSplice k r old new ⊎ IsWrittenInPart k r flush bytes old new
+-- the disk was flushed if that was asked for, or failed
+abbrev pub FlushesWhere : Bool → Written → DiskState → DiskState → Type 0
+FlushesWhere wanted Whole old new = Logs (flush_events wanted) old new
+FlushesWhere wanted FlushFailed old new = (wanted ≡ true) × FailsIn (flush_events wanted) old new
+FlushesWhere wanted EdgeUnread old new = ⊥
+FlushesWhere wanted WriteFailed old new = ⊥
+
+-- the write was made whole; or nothing was written, since an edge can't be read; or only its first part was; or it was
+-- made and not flushed
+abbrev pub WritesRange : Keying → ByteRange → Bool → List ℕ → Written → DiskState → DiskState → Type 0
+WritesRange k r flush bytes Whole old new = IsWrittenWhole k r flush bytes old new
+WritesRange k r flush bytes EdgeUnread old new = CannotSplice k r old new
+WritesRange k r flush bytes WriteFailed old new = IsWrittenInPart k r flush bytes old new
+WritesRange k r flush bytes FlushFailed old new = (flush ≡ true) × IsWrittenInPart k r flush bytes old new

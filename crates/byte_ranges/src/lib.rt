@@ -7,4 +7,4 @@ mod splices;
 
 pub use cover::{Cover, cover_of};
 pub use ranges::{ByteRange, has_range, read_range, size_of_data};
-pub use splices::write_range;
+pub use splices::{Written, write_range};

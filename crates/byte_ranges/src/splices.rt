@@ -6,12 +6,25 @@ ghost use Rattle.sector_runs.specs.Writing.{data_writes};
 ghost use Rattle.sealing.specs.Sectors.{units};
 ghost use Rattle.byte_ranges.specs.Edges.{PutsBackEdge, PutsFrontEdge, ReadsEdge};
 ghost use Rattle.byte_ranges.specs.Ranges.{IsCoverOf, IsInside};
-ghost use Rattle.byte_ranges.specs.Writes.{LogsOrFails, SplicesInto, WritesRange, flush_events};
+ghost use Rattle.byte_ranges.specs.Writes.{FlushesWhere, LogsOrFails, SplicesInto, WritesRange};
 
 use crate::cover::Cover;
 use crate::ranges::{ByteRange, read_sectors};
 use block_traits::Disk;
 use provider::Provider;
+
+/// What became of a write of a range.
+#[derive(Clone, Copy, Debug, PartialEq, Eq)]
+pub enum Written {
+    /// It was made whole, and flushed if that was asked for.
+    Whole,
+    /// The first or the last sector, which it covers in part, can't be read. Nothing was written.
+    EdgeUnread,
+    /// The disk failed at a write.
+    WriteFailed,
+    /// All was written, and the disk failed at the flush that was asked for.
+    FlushFailed,
+}
 
 // Reads a sector that a write covers in part.
 fn read_edge<D: Disk>(provider: &mut Provider<D>, sector: u64, into: &mut [u8]) -> bool
@@ -143,24 +156,24 @@ fn write_sectors<D: Disk>(provider: &mut Provider<D>, first: u64, count: usize, 
 }
 
 // Flushes the disk if `wanted` says so.
-fn flush_where<D: Disk>(provider: &mut Provider<D>, wanted: bool) -> bool
-    ensures flushes { LogsOrFails (flush_events wanted) result (D.state provider.old.disk) (D.state provider.new.disk) }
+fn flush_where<D: Disk>(provider: &mut Provider<D>, wanted: bool) -> Written
+    ensures flushes { FlushesWhere wanted result (D.state provider.old.disk) (D.state provider.new.disk) }
     ensures unasked { (D.state provider.new.disk).reads ≡ (D.state provider.old.disk).reads }
     ensures kept { IsKept provider.old provider.new }
 {
     if !wanted {
-        return true;
+        return Written::Whole;
     }
     match provider.flush() {
-        Ok(()) => true,
-        Err(_) => false,
+        Ok(()) => Written::Whole,
+        Err(_) => Written::FlushFailed,
     }
 }
 
 /// Writes a range, whose bytes stand in `sectors` from `cover.skip` on, and flushes the disk if `flush` says so. What
 /// the first and the last sector have beside the range is read first: at most two sectors, and none if the range is
-/// whole sectors. `edge` is room for one sector. `false`: the disk failed; or a unit that had to be read has another
-/// tag than that of its ciphertext, and nothing was written.
+/// whole sectors. `edge` is room for one sector. A sector that had to be read can't be if the disk failed, or a unit of it
+/// has another tag than that of its ciphertext.
 pub fn write_range<D: Disk>(
     provider: &mut Provider<D>,
     sectors: &mut [u8],
@@ -168,7 +181,7 @@ pub fn write_range<D: Disk>(
     range: &ByteRange,
     cover: &Cover,
     flush: bool,
-) -> bool
+) -> Written
     requires edge { length edge.old ≡ 65536 }
     requires wide { 512 ≤ provider.old.keying.sectorsize }
     requires small { provider.old.keying.sectorsize ≤ 65536 }
@@ -185,11 +198,11 @@ pub fn write_range<D: Disk>(
     ensures kept { IsKept provider.old provider.new }
 {
     if !splice(provider, sectors, edge, range, cover) {
-        return false;
+        return Written::EdgeUnread;
     }
     are_bytes(sectors);
     if !write_sectors(provider, cover.first, cover.count, sectors) {
-        return false;
+        return Written::WriteFailed;
     }
     flush_where(provider, flush)
 }

@@ -26,15 +26,15 @@ by_flush : (flushed : Result (Unit {0}) DiskFailed) (side : Side) (xs : List Exc
 by_flush (Ok done) side xs old last new c is told served closed = closed_survives side xs old last new c is told served closed
 by_flush (Err failed) side xs old last new c is told served closed = session-survives side xs old last c is told served
 
-where_told : (told : Option Content) (side : Side) (source rest : SourceState) (sink after : SinkState) (status : Status) (old new : DiskState) → IsKeying side.keying → old.content ≡ told
-    → (e : EndsWith side source rest sink after status old new) → IfSome told (EnduresSession side source rest sink after status old new e)
-where_told None side source rest sink after status old new is told e = tt
-where_told (Some c) side source rest sink after status old new is told e =
+where_told : (told : Option Content) (side : Side) (source rest : SourceState) (sink after log logged : SinkState) (status : Status) (old new : DiskState) → IsKeying side.keying → old.content ≡ told
+    → (e : EndsWith side source rest sink after log logged status old new) → IfSome told (EnduresSession side source rest sink after log logged status old new e)
+where_told None side source rest sink after log logged status old new is told e = tt
+where_told (Some c) side source rest sink after log logged status old new is told e =
     by_flush e.flushed side e.session.talks.talk.exchanges old e.session.last new c is told e.session.talks.served e.session.closed
 
 -- what the files reported when they were opened is what the disk reported when it was attached
 pub endures : {F : Type 0} {g : Ghosts (FileDisk F)} (told : F → Option Told) (same : (d : FileDisk F) → (g.state d).content ≡ (file.file_disk_state told d).content)
-    (disk : ImageDisk F g) (side : Side) (source rest : SourceState) (sink after : SinkState) (status : Status) (old new : DiskState) → IsKeying side.keying → TellsImage told disk → Logs [] (image_disk_state disk) old
-    → (e : EndsWith side source rest sink after status old new) → IfFilesTell told disk (EnduresSession side source rest sink after status old new e)
-endures told same disk side source rest sink after status old new is tells quiet e =
-    where_told _ side source rest sink after status old new is (quiet.content ∙ logged-none (image_disk_state disk).content ∙ tells_files told same disk tells) e
+    (disk : ImageDisk F g) (side : Side) (source rest : SourceState) (sink after log logged : SinkState) (status : Status) (old new : DiskState) → IsKeying side.keying → TellsImage told disk → Logs [] (image_disk_state disk) old
+    → (e : EndsWith side source rest sink after log logged status old new) → IfFilesTell told disk (EnduresSession side source rest sink after log logged status old new e)
+endures told same disk side source rest sink after log logged status old new is tells quiet e =
+    where_told _ side source rest sink after log logged status old new is (quiet.content ∙ logged-none (image_disk_state disk).content ∙ tells_files told same disk tells) e

@@ -1,5 +1,5 @@
 -- What was opened, attached and served, as one.
-use Rattle.std.proofs.Common.{◌≡◌, ◌∙◌, ◌⊎◌, inl, inr, Option, not, List, [], ◌∷◌, ℕ, Result, Ok, Err, IfOk, IfErr, OnOk, OnErr, ap, subst, sym}
+use Rattle.std.proofs.Common.{◌≡◌, ◌∙◌, ◌⊎◌, inl, inr, Option, not, List, [], ◌∷◌, ℕ, Result, Ok, Err, IfOk, IfErr, OnErr, ap, subst, sym}
 use Rattle.block_traits.specs.Cabinet.{CabinetState}
 use Rattle.block_traits.specs.Disk.{DiskState}
 use Rattle.block_traits.specs.Streams.{EntropyState, SinkState, SourceState, TookAll, TookPart}
@@ -40,16 +40,15 @@ pub served_disk : {D S K L : Type 0} (state : D → DiskState) (source : S → S
     → IfOk attached (λ p. AttachesProvider state line command start p c e)
     → IfOk attached (λ p. IsKeying p.keying)
     → IfErr attached (λ refused. Serves line command start (answers.Refused refused.1) (reach_of (state refused.0) Idle c e))
-    → IfOk attached (λ p. EndsWith (side_of p) (source input) (source rest) (sink output) (sink after) status (state p.disk) (state disk))
-    → OnOk attached (logged ≡ silent)
+    → IfOk attached (λ p. EndsWith (side_of p) (source input) (source rest) (sink output) (sink after) (log silent) (log logged) status (state p.disk) (state disk))
     → IfErr attached (λ refused. TookAll (refusal_text refused.1) (log silent) (log logged) ⊎ TookPart (refusal_text refused.1) (log silent) (log logged))
     → IfErr attached (λ refused. disk ≡ refused.0)
     → OnErr attached (status ≡ SomeRefused)
     → OnErr attached ((rest ≡ input) × (after ≡ output))
     → ServesDisk line command start (streams (source input) (sink output) (log silent)) status (remains (state disk) c e) (streams (source rest) (sink after) (log logged))
-served_disk state source sink log line command start (Ok p) disk c e input rest output after silent logged status attaches keying refuses ends same logs gone is untaken =
-    inr (record { attachment = attachment_of attaches.queue p; middle = state p.disk; row = attaches.row; keying = keying; ends = ends; log = ap log same })
-served_disk {D} state source sink log line command start (Err refused) disk c e input rest output after silent logged status attaches keying refuses ends same logs gone is untaken =
+served_disk state source sink log line command start (Ok p) disk c e input rest output after silent logged status attaches keying refuses ends logs gone is untaken =
+    inr (record { attachment = attachment_of attaches.queue p; middle = state p.disk; row = attaches.row; keying = keying; ends = ends })
+served_disk {D} state source sink log line command start (Err refused) disk c e input rest output after silent logged status attaches keying refuses ends logs gone is untaken =
     let left : D → Type 0 = λ d. Serves line command start (answers.Refused refused.1) (reach_of (state d) Idle c e) in
     inl (record {
       refusal = refused.1;
@@ -94,8 +93,8 @@ module _ {O F : Type 0} {g : Ghosts (FileDisk F)} (o : opener.Ghosts O F) (f : i
         wish = wish;
         opens = asked;
         outcome = inr (record {
-          served = record { attachment = h.attachment; middle = h.middle; row = from_told answers.Done reached h.row; keying = h.keying; ends = h.ends; log = h.log };
-          endures = endures f.told same disk (side_in h.attachment) source rest sink after status h.middle d h.keying tells quiet h.ends;
+          served = record { attachment = h.attachment; middle = h.middle; row = from_told answers.Done reached h.row; keying = h.keying; ends = h.ends };
+          endures = endures f.told same disk (side_in h.attachment) source rest sink after log logged status h.middle d h.keying tells quiet h.ends;
           covered = λ disk is. covered f.told same disk;
         });
       }

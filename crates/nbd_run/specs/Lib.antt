@@ -1,4 +1,5 @@
 pub mod Attaching
+pub mod Ending
 pub mod Program
 pub mod Status
 pub mod Words

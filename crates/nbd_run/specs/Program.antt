@@ -26,11 +26,14 @@ use Rattle.image_layers.specs.Images.{AsksPart, IfFilesTell, OpensNamed, TellsIm
 use Rattle.image_layers.specs.InFiles.{AreCovered}
 use Rattle.image_layers.specs.declared.image_disks.ImageDisk.{ImageDisk}
 use Rattle.nbd_negotiation.specs.declared.streams.End.{End}
+use Rattle.nbd_session.specs.Denials.{some_denied}
 use Rattle.nbd_session.specs.Durable.{Survives}
 use Rattle.nbd_session.specs.Lasting.{SurvivesClosed}
 use Rattle.nbd_session.specs.Requests.{Exchange, Side}
 use Rattle.nbd_session.specs.Session.{HasSession}
+use Rattle.nbd_session.specs.declared.denials.Denials.{Denials}
 use Rattle.reply_text.specs.Text.{refusal_text}
+use Rattle.nbd_run.specs.Ending.{IsToldBy}
 use Rattle.nbd_run.specs.Status.{session_status}
 use Rattle.nbd_run.specs.Words.{AsksForNothing, AsksToAttach, attaches_readonly, help_text, usage_line, version_text, wish_of}
 use Rattle.nbd_run.specs.declared.serving.Rooms.{Rooms}
@@ -99,22 +102,23 @@ module _ {O : Type 0} (log_of : O → Option (List Asked)) (words : List (List �
 
 -- ---- an attached provider
 
--- A session was had with a provider on a disk, and the status says how it ended.
-pub record EndsWith (side : Side) (source rest : SourceState) (sink after : SinkState) (status : Status) (old new : DiskState) : Type 0 where
+-- A session was had with a provider on a disk, and the status and the log say how it ended.
+pub record EndsWith (side : Side) (source rest : SourceState) (sink after log logged : SinkState) (status : Status) (old new : DiskState) : Type 0 where
   pub end : End
-  pub denied : Bool
+  pub denied : Denials
   pub flushed : Result (Unit {0}) DiskFailed
   pub session : HasSession side end denied source rest sink after flushed old new
-  pub status_is : status ≡ session_status end denied (is_ok flushed)
+  pub told : IsToldBy (some_denied denied) (is_ok flushed) denied log logged
+  pub status_is : status ≡ session_status end (some_denied denied) (is_ok flushed)
 
 -- what the exchanges did endures crashes; if the last flush was made, all that was acknowledged lasts
 abbrev pub EnduresBy : Result (Unit {0}) DiskFailed → Keying → List Exchange → Content → DiskState → DiskState → Type 0
 EnduresBy (Ok done) k xs c last new = SurvivesClosed k xs c last new
 EnduresBy (Err failed) k xs c last new = Survives k xs c last
 
-abbrev pub EnduresSession : (side : Side) (source rest : SourceState) (sink after : SinkState) (status : Status) (old new : DiskState)
-    → EndsWith side source rest sink after status old new → Content → Type 0
-EnduresSession side source rest sink after status old new e c =
+abbrev pub EnduresSession : (side : Side) (source rest : SourceState) (sink after log logged : SinkState) (status : Status) (old new : DiskState)
+    → EndsWith side source rest sink after log logged status old new → Content → Type 0
+EnduresSession side source rest sink after log logged status old new e c =
     EnduresBy e.flushed side.keying e.session.talks.talk.exchanges c e.session.last new
 
 -- an attached provider as a client sees it
@@ -144,8 +148,7 @@ module _ (line : List ℕ) (command : Command) (start : Reach) where
     pub middle : DiskState
     pub row : Serves line command start answers.Done (reach_of middle (IsAttached attachment) left.cabinet left.entropy)
     pub keying : IsKeying attachment.keying
-    pub ends : EndsWith (side_in attachment) old.source new.source old.sink new.sink status middle left.disk
-    pub log : new.log ≡ old.log
+    pub ends : EndsWith (side_in attachment) old.source new.source old.sink new.sink old.log new.log status middle left.disk
 
   -- what became of an idle disk
   abbrev pub ServesDisk : Streams → Status → Remains → Streams → Type 0
@@ -187,7 +190,7 @@ module _ {O F : Type 0} (g : Ghosts (FileDisk F)) (o : opener.Ghosts O F) (f : i
   -- may leave of that.
   pub record ServesInFile {words : List (List ℕ)} {opener : O} (h : OpensAsked words opener) (old : Streams) (status : Status) (left : Remains) (new : Streams) : Type 0 where
     pub served : ServesAttached h.line h.command (begins h) old status left new
-    pub endures : IfFilesTell f.told h.disk (EnduresSession (side_in served.attachment) old.source new.source old.sink new.sink status served.middle left.disk served.ends)
+    pub endures : IfFilesTell f.told h.disk (EnduresSession (side_in served.attachment) old.source new.source old.sink new.sink old.log new.log status served.middle left.disk served.ends)
     pub covered : AreCovered g f.told left.disk
 
   -- An image was opened, and its provider wasn't attached, or was and was served.

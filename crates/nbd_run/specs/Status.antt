@@ -14,15 +14,15 @@ run_number WriteFault = 4
 run_number NoMemory = 5
 run_number Malformed = 6
 
--- a session that the client ended well: whether a write, a request for zeros or a flush was answered with an error, and
--- whether the last flush was made
-abbrev pub closed_status : Bool → Bool → Status
-closed_status false true = Done
-closed_status denied flushed = SomeRefused
+-- the status of a session by why it ended, where nothing was refused and the last flush was made
+abbrev pub end_status : End → Status
+end_status ends.ReadFault = ReadFault
+end_status ends.WriteFault = WriteFault
+end_status ends.Malformed = Malformed
+end_status ends.Closed = Done
 
--- the status of a session: why it ended comes first
+-- The status of a session, by why it ended, whether a write, a request for zeros or a flush was answered with an error,
+-- and whether the last flush was made. What was refused comes first.
 abbrev pub session_status : End → Bool → Bool → Status
-session_status ends.ReadFault denied flushed = ReadFault
-session_status ends.WriteFault denied flushed = WriteFault
-session_status ends.Malformed denied flushed = Malformed
-session_status ends.Closed denied flushed = closed_status denied flushed
+session_status end false true = end_status end
+session_status end denied flushed = SomeRefused

@@ -2,6 +2,7 @@
 #![tactic(auto)]
 
 mod attaching;
+mod ending;
 mod opening;
 mod run;
 mod serving;

@@ -1,5 +1,5 @@
 //! An attached provider is served, or its refusal logged.
-ghost use Rattle.std.specs.Prelude.{◌≡◌, ◌⊎◌, IfErr, IfOk, OnErr, OnOk, length};
+ghost use Rattle.std.specs.Prelude.{◌≡◌, ◌⊎◌, IfErr, IfOk, OnErr, length};
 ghost use Rattle.block_traits.specs.Streams.{TookAll, TookPart};
 ghost use Rattle.eli_base.specs.Requests.{request_limit};
 ghost use Rattle.nbd_session.specs.Requests.{side_of};
@@ -7,6 +7,7 @@ ghost use Rattle.nbd_run.specs.Program.{AreWiped, EndsWith, PrintsText};
 ghost use Rattle.nbd_run.specs.declared.status.Status.TheVariants as statuses;
 ghost use Rattle.reply_text.specs.Text.{refusal_text};
 
+use crate::ending::tell_end;
 use crate::status::{Status, session_status};
 use block_traits::{Disk, Sink, Source};
 use eli_base::{REQUEST_LIMIT, Refusal};
@@ -17,21 +18,24 @@ use std::alloc::{AllocError, Global};
 use text_page::write_text;
 use wiping::{scrub, wipe};
 
-// Serves an attached provider to one client, and returns the disk.
-fn serve_provider<D: Disk, S: Source, K: Sink>(
+// Serves an attached provider to one client, tells the log how that ended, and returns the disk.
+fn serve_provider<D: Disk, S: Source, K: Sink, L: Sink>(
     provider: Provider<D>,
     room: &mut [u8],
     edge: &mut [u8],
     input: &mut S,
     output: &mut K,
+    log: &mut L,
 ) -> (Status, D)
     requires room { length room.old ≡ 33685520 }
     requires edge { length edge.old ≡ 65536 }
     ensures { EndsWith (side_of provider) (S.state input.old) (S.state input.new) (K.state output.old) (K.state output.new)
-        result.0 (D.state provider.disk) (D.state result.1) }
+        (L.state log.old) (L.state log.new) result.0 (D.state provider.disk) (D.state result.1) }
 {
     let (end, disk, flushed, denied) = serve(provider, room, edge, input, output);
-    (session_status(end, denied, flushed.is_ok()), disk)
+    tell_end(&denied, flushed.is_ok(), log);
+    let status = session_status(end, denied.are_some(), flushed.is_ok());
+    (status, disk)
 }
 
 /// The rooms that are taken before anything is opened: the buffer of a command, and the two of a session.
@@ -84,8 +88,7 @@ pub(crate) fn serve_or_log<D: Disk, S: Source, K: Sink, L: Sink>(
     requires room { length rooms.old.room.items ≡ 33685520 }
     requires edge { length rooms.old.edge.items ≡ 65536 }
     ensures serves { IfOk attached (λ provider. EndsWith (side_of provider) (S.state input.old) (S.state input.new)
-        (K.state output.old) (K.state output.new) result.0 (D.state provider.disk) (D.state result.1)) }
-    ensures silent { OnOk attached (log.new ≡ log.old) }
+        (K.state output.old) (K.state output.new) (L.state log.old) (L.state log.new) result.0 (D.state provider.disk) (D.state result.1)) }
     ensures logs { IfErr attached (λ refused. TookAll (refusal_text refused.1) (L.state log.old) (L.state log.new)
         ⊎ TookPart (refusal_text refused.1) (L.state log.old) (L.state log.new)) }
     ensures disk { IfErr attached (λ refused. result.1 ≡ refused.0) }
@@ -95,7 +98,7 @@ pub(crate) fn serve_or_log<D: Disk, S: Source, K: Sink, L: Sink>(
     match attached {
         Ok(provider) => {
             let Rooms { room, edge, .. } = rooms;
-            serve_provider(provider, room, edge, input, output)
+            serve_provider(provider, room, edge, input, output, log)
         }
         Err((disk, refusal)) => {
             log_refusal(refusal, log);

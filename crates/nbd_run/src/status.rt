@@ -11,17 +11,18 @@ use std::process::ExitCode;
 pub enum Status {
     /// The client ended, each of its writes and flushes was done, and so was the last flush. Or a text was printed.
     Done,
-    /// The provider wasn't attached; or a write, a request for zeros or a flush was refused, or the last flush failed.
+    /// The provider wasn't attached; or a write, a request for zeros or a flush was refused, or the last flush failed,
+    /// however the session ended.
     SomeRefused,
     /// The words ask for nothing that the program does.
     BadWords,
-    /// The source failed.
+    /// The source failed, and nothing was refused.
     ReadFault,
-    /// The sink failed.
+    /// The sink failed, and nothing was refused.
     WriteFault,
     /// There was no memory, and nothing was served.
     NoMemory,
-    /// The client sent what no client sends.
+    /// The client sent what no client sends, and nothing was refused.
     Malformed,
 }
 
@@ -50,20 +51,17 @@ pub fn exit_code(status: Status) -> ExitCode
 }
 
 /// The status of a session, by why it ended, whether a request to change or to flush the disk was answered with an
-/// error, and whether the last flush was made.
+/// error, and whether the last flush was made. What was refused comes first, and then why it ended.
 pub(crate) fn session_status(end: End, denied: bool, flushed: bool) -> Status
     ensures { result ≡ session_status end denied flushed }
 {
+    if denied || !flushed {
+        return Status::SomeRefused;
+    }
     match end {
         End::ReadFault => Status::ReadFault,
         End::WriteFault => Status::WriteFault,
         End::Malformed => Status::Malformed,
-        End::Closed => {
-            if denied || !flushed {
-                Status::SomeRefused
-            } else {
-                Status::Done
-            }
-        }
+        End::Closed => Status::Done,
     }
 }

@@ -22,13 +22,13 @@ use Rattle.nbd_words.specs.Transmission.{has_fua, request_kind}
 use Rattle.nbd_words.specs.declared.transmission.RequestKind.{RequestKind}
 use Rattle.nbd_words.specs.declared.transmission.RequestKind.TheVariants as kinds
 use Rattle.nbd_words.specs.declared.transmission.ReplyError.{ReplyError}
-use Rattle.nbd_words.specs.declared.transmission.ReplyError.TheVariants.{Done, ReadOnly, Failed, Invalid, PassesEnd}
+use Rattle.nbd_words.specs.declared.transmission.ReplyError.TheVariants.{Done, ReadOnly, Failed, Invalid, PassesEnd, NoRoom}
 use Rattle.byte_ranges.specs.Ranges.{IsSpliced, first_sector, sectors_covered}
-use Rattle.byte_ranges.specs.Writes.{Splices, flush_events, range_writes}
+use Rattle.byte_ranges.specs.Writes.{IsWrittenInPart, Splices, flush_events, range_writes}
 use Rattle.byte_ranges.proofs.Covering.{covered_inside}
 use Rattle.eli_base.specs.Units.{media_sectors}
 use Rattle.nbd_words.specs.declared.transmission.Request.{Request}
-use Rattle.nbd_session.specs.Requests.{AnswersFlush, AnswersRead, AnswersWrite, Exchange, FitsIn, ServesExchanges, ServesKind, Side, range_of, zeros_of}
+use Rattle.nbd_session.specs.Requests.{AnswersFlush, AnswersRead, AnswersWrite, Exchange, FitsIn, MayWrite, ServesExchanges, ServesKind, Side, range_of, zeros_of}
 use Rattle.nbd_session.specs.Durable.{Deed, DidBy, DidEach, IsOfKind, IsOfWrite, Survives, exchange_steps, flush_steps, session_steps, steps_of_kind, steps_of_write}
 
 -- ---- steps
@@ -156,6 +156,7 @@ did-read Failed side n x steps c d told below h =
 did-read Invalid side n x steps c d told below h = did-still Invalid kinds.Read n side.keying x steps c d refl told below h.2
 did-read ReadOnly side n x steps c d told below h = absurd h
 did-read PassesEnd side n x steps c d told below h = absurd h
+did-read NoRoom side n x steps c d told below h = absurd h
 
 -- the sectors of a write are there, as the content says
 room-told : (k : Keying) (q : Request) (c : Content) (d : DiskState) → IsKeying k → d.content ≡ Some c → FitsIn k d q
@@ -172,10 +173,24 @@ written k q bytes whole c d is told inside are splices = record {
   splices = subst (λ (o : Option Content). IfSome o (λ c. IsSpliced k c (range_of q) bytes whole)) told splices;
 }
 
+-- a write of which the first part was made
+did-in-part : (kind : RequestKind) (side : Side) (n : ℕ) (x : Exchange) (payload : List ℕ) (steps : List Step) (c : Content) (d : DiskState) → IsKeying side.keying
+    → ((whole : List ℕ) → steps_of_kind kind n side.keying x whole ≡ steps_of_write n side.keying x.request whole)
+    → ((whole : List ℕ) → IsOfWrite side.keying (after steps c) x.request payload whole → IsOfKind kind side.keying (after steps c) x whole)
+    → d.content ≡ Some (after steps c) → AreStepsBelow n steps → MayWrite side d x.request → IsWrittenInPart side.keying (range_of x.request) (has_fua x.request.flags) payload d x.next → Did Failed kind n side.keying x steps c
+did-in-part kind side n x payload steps c d is same of told below may w =
+    did-part kind n side.keying x steps c d w.whole (of w.whole (written side.keying x.request payload w.whole (after steps c) d is told may.inside w.are w.splices)) told
+    (subst (λ (s : List Step). AreStepsBelow (n + 1) (steps ++ s)) (sym (same w.whole)) (write-fits n side.keying x steps w.whole below is (sym w.size) w.are))
+    (subst (λ (e : List Event). FailsIn e d x.next) (sym (ap events_of (same w.whole) ∙ write-logs n side.keying x w.whole)) w.fails)
+
+-- so it is, if room was wanting
+did-no-room : (kind : RequestKind) (n : ℕ) (k : Keying) (x : Exchange) (steps : List Step) (c : Content) → Did Failed kind n k x steps c → Did NoRoom kind n k x steps c
+did-no-room kind n k x steps c h = record { deed = h.deed; by = h.by; content = h.content; below = h.below }
+
 did-write : (error : ReplyError) (kind : RequestKind) (side : Side) (n : ℕ) (x : Exchange) (payload : List ℕ) (steps : List Step) (c : Content) (d : DiskState) → IsKeying side.keying
     → ((whole : List ℕ) → steps_of_kind kind n side.keying x whole ≡ steps_of_write n side.keying x.request whole)
     → ((whole : List ℕ) → IsOfWrite side.keying (after steps c) x.request payload whole → IsOfKind kind side.keying (after steps c) x whole)
-    → d.content ≡ Some (after steps c) → AreStepsBelow n steps → AnswersWrite side x.request payload error d x.next → Did error kind n side.keying x steps c
+    → d.content ≡ Some (after steps c) → AreStepsBelow n steps → AnswersWrite side x.wanting x.request payload error d x.next → Did error kind n side.keying x steps c
 did-write Done kind side n x payload steps c d is same of told below h =
     let w = h.1 in
     did-all kind n side.keying x steps c d w.whole (of w.whole (written side.keying x.request payload w.whole (after steps c) d is told h.0.inside w.are w.splices)) told
@@ -187,10 +202,10 @@ did-write Failed kind side n x payload steps c d is same of told below h =
         | inl fails ↦ did-none Failed kind n side.keying x steps c d (inl refl) told below (fails-none fails)
         | inr read ↦ did-none Failed kind n side.keying x steps c d (inl refl) told below read.0
       ]
-      | inr w ↦ did-part kind n side.keying x steps c d w.whole (of w.whole (written side.keying x.request payload w.whole (after steps c) d is told h.0.inside w.are w.splices)) told
-          (subst (λ (s : List Step). AreStepsBelow (n + 1) (steps ++ s)) (sym (same w.whole)) (write-fits n side.keying x steps w.whole below is (sym w.size) w.are))
-          (subst (λ (e : List Event). FailsIn e d x.next) (sym (ap events_of (same w.whole) ∙ write-logs n side.keying x w.whole)) w.fails)
+      | inr w ↦ did-in-part kind side n x payload steps c d is same of told below h.0 w.1
     ]
+did-write NoRoom kind side n x payload steps c d is same of told below h =
+    did-no-room kind n side.keying x steps c (did-in-part kind side n x payload steps c d is same of told below h.0 h.2)
 did-write ReadOnly kind side n x payload steps c d is same of told below h = did-still ReadOnly kind n side.keying x steps c d refl told below h.1
 did-write Invalid kind side n x payload steps c d is same of told below h = did-still Invalid kind n side.keying x steps c d refl told below h.1
 did-write PassesEnd kind side n x payload steps c d is same of told below h = did-still PassesEnd kind n side.keying x steps c d refl told below h.1
@@ -206,6 +221,7 @@ did-flush Failed n k x steps c d told below h = did-part kinds.Flush n k x steps
 did-flush ReadOnly n k x steps c d told below h = absurd h
 did-flush Invalid n k x steps c d told below h = did-still Invalid kinds.Flush n k x steps c d refl told below h.1
 did-flush PassesEnd n k x steps c d told below h = absurd h
+did-flush NoRoom n k x steps c d told below h = absurd h
 
 did-kind : (kind : RequestKind) (side : Side) (n : ℕ) (x : Exchange) (steps : List Step) (c : Content) (d : DiskState) → IsKeying side.keying
     → d.content ≡ Some (after steps c) → AreStepsBelow n steps → ServesKind kind side x d → Did x.error kind n side.keying x steps c

@@ -20,7 +20,7 @@ use Rattle.provider_readings.proofs.Attaching.{attaches}
 use Rattle.nbd_words.specs.Transmission.{has_fua, request_kind}
 use Rattle.nbd_words.specs.declared.transmission.Request.{Request}
 use Rattle.nbd_words.specs.declared.transmission.ReplyError.{ReplyError}
-use Rattle.nbd_words.specs.declared.transmission.ReplyError.TheVariants.{Done, ReadOnly, Failed, Invalid, PassesEnd}
+use Rattle.nbd_words.specs.declared.transmission.ReplyError.TheVariants.{Done, ReadOnly, Failed, Invalid, PassesEnd, NoRoom}
 use Rattle.nbd_words.specs.declared.transmission.RequestKind.{RequestKind}
 use Rattle.nbd_words.specs.declared.transmission.RequestKind.TheVariants as kinds
 use Rattle.provider_readings.specs.Attaching.{AttachesOrLacksMemory, HasImage}
@@ -98,6 +98,7 @@ steps-more (x ∷ xs) (d ∷ ds) more n k c h = ap (λ (l : List Step). exchange
 refused-none : (error : ReplyError) (kind : RequestKind) (m : ℕ) (k : Keying) (c : Content) (x : Exchange) (d : Deed) → IsRefusingReply error → DidBy error kind m k c x d → d.count ≡ 0
 refused-none Done kind m k c x d refused by = absurd refused
 refused-none Failed kind m k c x d refused by = absurd refused
+refused-none NoRoom kind m k c x d refused by = absurd refused
 refused-none ReadOnly kind m k c x d refused by = by
 refused-none Invalid kind m k c x d refused by = by
 refused-none PassesEnd kind m k c x d refused by = by
@@ -322,10 +323,10 @@ stands number k q part bytes whole c earlier tail image is of part_is quiet flus
     let left = length-drop (lead * S) whole in
     let sum : many * S ≡ lead * S + (count * S + rest * S) = ap (λ (n : ℕ). n * S) in_it.count ∙ add-mul lead (count + rest) S ∙ ap (λ (n : ℕ). lead * S + n) (add-mul count rest S) in
     let below = of.inside in
-    let counted = in_it.count in
+    let with_denied = in_it.count in
     let same_first = in_it.first in
     let reads = data-lasts count number k from here (λ n. cell_after steps n (start n)) (after ((earlier ++ ahead) ++ steps) c) image is (AreBytes-drop (lead * S) whole of.are) (omega (arith, left, fills, sum))
-    (omega (arith, below, counted)) (subst (λ (s : List Step). IsTorn (after s c) image) now torn)
+    (omega (arith, below, with_denied)) (subst (λ (s : List Step). IsTorn (after s c) image) now torn)
     (λ n. kept_values-cell c ((earlier ++ ahead) ++ steps) n ∙ ap all_device_bytes (cell_after-append (earlier ++ ahead) steps n (map Raw (kept_values c n))))
     (write-holds count number k from here start (behind ++ tail)
     (λ n low high. quiet-both behind tail n (quiet-data number k (from + count) rest (drop (count * S) here) n (inl high))
@@ -501,6 +502,7 @@ read_by Failed side y bytes image old has reads h = elim h.2 [
 read_by Invalid side y bytes image old has reads h = tt
 read_by ReadOnly side y bytes image old has reads h = absurd h
 read_by PassesEnd side y bytes image old has reads h = absurd h
+read_by NoRoom side y bytes image old has reads h = absurd h
 
 -- what a range of a survivor reads as is what a read returns
 pub reads-range : (k : Keying) (r : ByteRange) (bytes : List ℕ) (image : List (List ℕ)) → range_reading k (survivor image) r ≡ Ok bytes → (side : Side) (y : Exchange) (old : DiskState) → side.keying ≡ k → HasImage image old

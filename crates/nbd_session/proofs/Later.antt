@@ -10,7 +10,7 @@ use Rattle.byte_ranges.specs.declared.ranges.ByteRange.{ByteRange}
 use Rattle.eli_base.specs.Keying.{Keying}
 use Rattle.nbd_words.specs.Transmission.{has_fua, request_kind}
 use Rattle.nbd_words.specs.declared.transmission.ReplyError.{ReplyError}
-use Rattle.nbd_words.specs.declared.transmission.ReplyError.TheVariants.{Done, ReadOnly, Failed, Invalid, PassesEnd}
+use Rattle.nbd_words.specs.declared.transmission.ReplyError.TheVariants.{Done, ReadOnly, Failed, Invalid, PassesEnd, NoRoom}
 use Rattle.nbd_words.specs.declared.transmission.RequestKind.{RequestKind}
 use Rattle.nbd_words.specs.declared.transmission.RequestKind.TheVariants as kinds
 use Rattle.provider_readings.proofs.Attaching.{attaches}
@@ -265,6 +265,7 @@ part-given k r part d bytes some is fits written =
 of-kind : (error : ReplyError) (kind : RequestKind) (number : ℕ) (k : Keying) (c : Content) (x : Exchange) (d : Deed) → DidBy error kind number k c x d → (d.count ≡ 0 → ⊥) → IsOfKind kind k c x d.whole
 of-kind Done kind number k c x d by some = by.0
 of-kind Failed kind number k c x d by some = elim by [ inl none ↦ absurd (some none) | inr of ↦ of.0 ]
+of-kind NoRoom kind number k c x d by some = elim by [ inl none ↦ absurd (some none) | inr of ↦ of.0 ]
 of-kind ReadOnly kind number k c x d by some = absurd (some by)
 of-kind Invalid kind number k c x d by some = absurd (some by)
 of-kind PassesEnd kind number k c x d by some = absurd (some by)

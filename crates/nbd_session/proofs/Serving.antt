@@ -1,5 +1,5 @@
 -- Requests that are taken, served and answered.
-use Rattle.std.proofs.Common.{◌≡◌, ◌∙◌, inl, inr, ℕ, ◌+◌, ◌-◌, ◌%◌, ◌<◌, ◌≤◌, Bool, false, List, [], ◌++◌, length, take, drop, None, Some, Result, Err, refl, ap, sym, subst, arith, append-nil, length-drop, length-take-le}
+use Rattle.std.proofs.Common.{◌≡◌, ◌∙◌, inl, inr, ℕ, ◌+◌, ◌-◌, ◌%◌, ◌<◌, ◌≤◌, Bool, true, false, Option, List, [], ◌++◌, length, take, drop, None, Some, Result, Err, refl, ap, sym, subst, arith, append-nil, length-drop, length-take-le}
 use Rattle.std.proofs.Math.Seq.{drop-append-add, take-append-add, take-append_seam}
 use Rattle.std.proofs.lemmas.List.{drop-drop, drop-take, take-append-le, take-take}
 use Rattle.std.proofs.lemmas.Option.{none-some, same_Some}
@@ -9,6 +9,8 @@ use Rattle.byte_ranges.specs.Ranges.{skipped}
 use Rattle.byte_ranges.specs.Reads.{CannotReadRange, IsRangeReadAs}
 use Rattle.byte_ranges.specs.Writes.{WritesRange}
 use Rattle.byte_ranges.specs.declared.ranges.ByteRange.{ByteRange}
+use Rattle.byte_ranges.specs.declared.splices.Written.{Written}
+use Rattle.byte_ranges.specs.declared.splices.Written.TheVariants.{Whole, EdgeUnread, WriteFailed, FlushFailed}
 use Rattle.nbd_words.specs.Transmission.{has_fua, reply_head, request_in, request_kind}
 use Rattle.nbd_words.specs.declared.transmission.Request.{Request}
 use Rattle.nbd_words.specs.declared.transmission.RequestKind.{RequestKind}
@@ -19,9 +21,11 @@ use Rattle.nbd_negotiation.specs.Streams.{Fills, GivesBytes, SourceGave}
 use Rattle.nbd_negotiation.specs.declared.streams.End.{End}
 use Rattle.nbd_negotiation.specs.declared.streams.End.TheVariants.{Closed, ReadFault, WriteFault, Malformed}
 use Rattle.nbd_negotiation.proofs.Filling.{SourceGave-bare, SourceGave-then, fewer, part_filled}
-use Rattle.nbd_session.specs.Requests.{AnswersRead, AnswersWrite, MayRead, ServesKind, Side, denied_by, most, range_of}
+use Rattle.nbd_session.specs.Denials.{denial_by}
+use Rattle.nbd_session.specs.Requests.{AnswersRead, AnswersWrite, MayRead, MayWrite, ServesKind, write_error, Side, most, range_of}
 use Rattle.nbd_session.specs.Served.{KindIsServed, ServesNone, ServesRequest, WriteIsCut}
 use Rattle.nbd_session.specs.Stops.{IsCut, LacksBytes, Stops}
+use Rattle.nbd_session.specs.declared.denials.Denial.{Denial}
 use borrow.Rule.Slice.PartMut.{mid_of, put_mid, post_of}
 
 -- ---- the room
@@ -75,8 +79,8 @@ pub payload_there : (offset size there n k : ℕ) (room ys : List ℕ) → size 
 payload_there offset size there n k room ys same long inside =
     ap (λ (m : ℕ). take n (drop (offset % m) (put_mid (offset % size) k room ys))) (sym same) ∙ part_there (offset % size) n k room ys long inside
 
-pub written_there : (side : Side) (q : Request) (payload other : List ℕ) (error : ReplyError) (old new : DiskState) → other ≡ payload → AnswersWrite side q other error old new → AnswersWrite side q payload error old new
-written_there side q payload other error old new same h = subst (λ (l : List ℕ). AnswersWrite side q l error old new) same h
+pub written_there : (side : Side) (wanting : Bool) (q : Request) (payload other : List ℕ) (error : ReplyError) (old new : DiskState) → other ≡ payload → AnswersWrite side wanting q other error old new → AnswersWrite side wanting q payload error old new
+written_there side wanting q payload other error old new same h = subst (λ (l : List ℕ). AnswersWrite side wanting q l error old new) same h
 
 -- ---- reads and writes of a request's range
 
@@ -90,7 +94,7 @@ pub read_failed : (side : Side) (q : Request) (r : ByteRange) (old new : DiskSta
 read_failed side q r old new same may h = (may, refl, subst (λ (range : ByteRange). CannotReadRange side.keying range old new) same h)
 
 -- a write from the room, in which the bytes stood among those of the sectors
-pub write_by : (answer : Bool) (side : Side) (q : Request) (room : List ℕ) (r : ByteRange) (flush : Bool) (size skip whole : ℕ) (old new : DiskState) → r ≡ range_of q → flush ≡ has_fua q.flags
+write_by : (answer : Written) (side : Side) (q : Request) (room : List ℕ) (r : ByteRange) (flush : Bool) (size skip whole : ℕ) (old new : DiskState) → r ≡ range_of q → flush ≡ has_fua q.flags
     → size ≡ side.keying.sectorsize → skip ≡ q.offset % size → skip + q.length ≤ whole → WritesRange side.keying r flush (take r.count (drop skip (take whole room))) answer old new
     → WritesRange side.keying (range_of q) (has_fua q.flags) (take q.length (drop (skipped side.keying (range_of q)) room)) answer old new
 write_by answer side q room r flush size skip whole old new same flag is place inside h =
@@ -98,6 +102,22 @@ write_by answer side q room r flush size skip whole old new same flag is place i
     subst (λ (l : List ℕ). WritesRange side.keying (range_of q) (has_fua q.flags) l answer old new) bytes
     (subst (λ (b : Bool). WritesRange side.keying (range_of q) b (take q.length (drop skip (take whole room))) answer old new) flag
     (subst (λ (range : ByteRange). WritesRange side.keying range flush (take range.count (drop skip (take whole room))) answer old new) same h))
+
+-- the reply to what became of a write
+answered : (written : Written) (wanting : Bool) (side : Side) (q : Request) (payload : List ℕ) (old new : DiskState) → MayWrite side old q
+    → WritesRange side.keying (range_of q) (has_fua q.flags) payload written old new → AnswersWrite side wanting q payload (write_error written wanting) old new
+answered Whole wanting side q payload old new may h = (may, h)
+answered EdgeUnread wanting side q payload old new may h = (may, inl h)
+answered WriteFailed true side q payload old new may h = (may, refl, h)
+answered WriteFailed false side q payload old new may h = (may, inr (inl refl, h))
+answered FlushFailed wanting side q payload old new may h = (may, inr (inr h.0, h.1))
+
+pub write_answered : (written : Written) (wanting : Bool) (error : ReplyError) (side : Side) (q : Request) (room : List ℕ) (r : ByteRange) (flush : Bool) (size skip whole : ℕ) (old new : DiskState) → MayWrite side old q → r ≡ range_of q → flush ≡ has_fua q.flags
+    → size ≡ side.keying.sectorsize → skip ≡ q.offset % size → skip + q.length ≤ whole → WritesRange side.keying r flush (take r.count (drop skip (take whole room))) written old new → error ≡ write_error written wanting
+    → AnswersWrite side wanting q (take q.length (drop (skipped side.keying (range_of q)) room)) error old new
+write_answered written wanting error side q room r flush size skip whole old new may same flag is place inside h told =
+    subst (λ (e : ReplyError). AnswersWrite side wanting q (take q.length (drop (skipped side.keying (range_of q)) room)) e old new) (sym told)
+    (answered written wanting side q (take q.length (drop (skipped side.keying (range_of q)) room)) old new may (write_by written side q room r flush size skip whole old new same flag is place inside h))
 
 -- ---- one request
 
@@ -111,22 +131,23 @@ pub gives-bare : (xs : List ℕ) (result : Result (Unit {0}) End) (sink after : 
 gives-bare xs result sink after h = subst (λ (l : List ℕ). GivesBytes l sink result after) (sym (append-nil xs)) h
 
 -- an exchange of a request of this kind
-one : (kind : RequestKind) (side : Side) (head : List ℕ) (q : Request) (payload : List ℕ) (error : ReplyError) (bytes : List ℕ) (old new : DiskState) (source rest : SourceState) (sink : SinkState)
-    (result : Result (Unit {0}) End) (after : SinkState) (denied : Bool) → length head ≡ 28 → request_in head ≡ Some q → request_kind q.code ≡ kind
-    → denied ≡ denied_by kind error
-    → ServesKind kind side (record { head = head; request = q; payload = payload; error = error; bytes = bytes; next = new }) old
-    → SourceGave (head ++ payload) source rest → GivesBytes (reply_head error q.cookie ++ bytes) sink result after → ServesRequest side old new source rest sink result after denied
-one kind side head q payload error bytes old new source rest sink result after denied long reads is noted serves took gives =
+one : (kind : RequestKind) (side : Side) (wanting : Bool) (head : List ℕ) (q : Request) (payload : List ℕ) (error : ReplyError) (bytes : List ℕ) (old new : DiskState) (source rest : SourceState) (sink : SinkState)
+    (result : Result (Unit {0}) End) (after : SinkState) (denied : Option Denial) → length head ≡ 28 → request_in head ≡ Some q → request_kind q.code ≡ kind
+    → denied ≡ denial_by kind error q.offset
+    → ServesKind kind side (record { head = head; request = q; payload = payload; error = error; bytes = bytes; wanting = wanting; next = new }) old
+    → SourceGave (head ++ payload) source rest → GivesBytes (reply_head error q.cookie ++ bytes) sink result after → ServesRequest side wanting old new source rest sink result after denied
+one kind side wanting head q payload error bytes old new source rest sink result after denied long reads is noted serves took gives =
     inl (record {
-      exchange = record { head = head; request = q; payload = payload; error = error; bytes = bytes; next = new };
+      exchange = record { head = head; request = q; payload = payload; error = error; bytes = bytes; wanting = wanting; next = new };
       serves = (
         record { size = long; reads = reads },
-        subst (λ (j : RequestKind). ServesKind j side (record { head = head; request = q; payload = payload; error = error; bytes = bytes; next = new }) old) (sym is) serves,
+        subst (λ (j : RequestKind). ServesKind j side (record { head = head; request = q; payload = payload; error = error; bytes = bytes; wanting = wanting; next = new }) old) (sym is) serves,
       );
       next = refl;
+      wants = refl;
       took = took;
       gives = gives;
-      noted = subst (λ (j : RequestKind). denied ≡ denied_by j error) (sym is) noted;
+      noted = subst (λ (j : RequestKind). denied ≡ denial_by j error q.offset) (sym is) noted;
     })
 
 -- if a request is cut, the source ended or failed
@@ -136,16 +157,16 @@ cut_stops ReadFault taken bytes source middle rest later cut h = (cut, omega (ar
 cut_stops WriteFault taken bytes source middle rest later cut h = absurd h
 cut_stops Malformed taken bytes source middle rest later cut h = absurd h
 
-none : (end : End) (taken : List ℕ) (old new : DiskState) (source rest : SourceState) (sink : SinkState) (result : Result (Unit {0}) End) (after : SinkState) (denied : Bool) → result ≡ Err end
-    → SourceGave taken source rest → Stops (Err end) taken source rest → new ≡ old → after ≡ sink → denied ≡ false → ServesNone old new source rest sink result after denied
+none : (end : End) (taken : List ℕ) (old new : DiskState) (source rest : SourceState) (sink : SinkState) (result : Result (Unit {0}) End) (after : SinkState) (denied : Option Denial) → result ≡ Err end
+    → SourceGave taken source rest → Stops (Err end) taken source rest → new ≡ old → after ≡ sink → denied ≡ None → ServesNone old new source rest sink result after denied
 none end taken old new source rest sink result after denied why took stops disk silent noted =
     record { bytes = taken; took = took; stops = subst (λ (r : Result (Unit {0}) End). Stops r taken source rest) (sym why) stops; disk = disk; silent = silent; noted = noted }
 
 -- the bytes of a write didn't all come
-no_bytes : (side : Side) (head : List ℕ) (q : Request) (old new : DiskState) (source middle rest : SourceState) (sink : SinkState) (result : Result (Unit {0}) End) (after : SinkState) (denied : Bool)
+no_bytes : (side : Side) (wanting : Bool) (head : List ℕ) (q : Request) (old new : DiskState) (source middle rest : SourceState) (sink : SinkState) (result : Result (Unit {0}) End) (after : SinkState) (denied : Option Denial)
     → length head ≡ 28 → request_in head ≡ Some q → request_kind q.code ≡ kinds.Write → SourceGave head source middle → WriteIsCut q old new middle rest sink result after denied
-    → ServesRequest side old new source rest sink result after denied
-no_bytes side head q old new source middle rest sink result after denied long reads is took cut =
+    → ServesRequest side wanting old new source rest sink result after denied
+no_bytes side wanting head q old new source middle rest sink result after denied long reads is took cut =
     let part = part_filled cut.end cut.bytes middle rest cut.fills in
     let bytes : List ℕ = take part.count cut.bytes in
     let lacks : LacksBytes (head ++ bytes) = record {
@@ -162,12 +183,12 @@ no_bytes side head q old new source middle rest sink result after denied long re
     inr (none cut.end (head ++ bytes) old new source rest sink result after denied cut.why (SourceGave-then took part.gave)
     (cut_stops cut.end (head ++ bytes) cut.bytes source middle rest took.later (inr lacks) cut.fills) cut.disk cut.silent cut.noted)
 
-by-kind : (kind : RequestKind) (side : Side) (head : List ℕ) (q : Request) (old new : DiskState) (source middle rest : SourceState) (sink : SinkState) (result : Result (Unit {0}) End) (after : SinkState) (denied : Bool)
-    → length head ≡ 28 → request_in head ≡ Some q → request_kind q.code ≡ kind → SourceGave head source middle → KindIsServed kind side q old new middle rest sink result after denied
-    → ServesRequest side old new source rest sink result after denied
-by-kind kinds.Read side head q old new source middle rest sink result after denied long reads is took h =
-    one kinds.Read side head q [] h.1.error h.1.bytes old new source rest sink result after denied long reads is h.2 (refl, h.1.reads) (bare took h.0) h.1.gives
-by-kind kinds.Write side head q old new source middle rest sink result after denied long reads is took h = elim h [
+by-kind : (kind : RequestKind) (side : Side) (wanting : Bool) (head : List ℕ) (q : Request) (old new : DiskState) (source middle rest : SourceState) (sink : SinkState) (result : Result (Unit {0}) End) (after : SinkState) (denied : Option Denial)
+    → length head ≡ 28 → request_in head ≡ Some q → request_kind q.code ≡ kind → SourceGave head source middle → KindIsServed kind side wanting q old new middle rest sink result after denied
+    → ServesRequest side wanting old new source rest sink result after denied
+by-kind kinds.Read side wanting head q old new source middle rest sink result after denied long reads is took h =
+    one kinds.Read side wanting head q [] h.1.error h.1.bytes old new source rest sink result after denied long reads is h.2 (refl, h.1.reads) (bare took h.0) h.1.gives
+by-kind kinds.Write side wanting head q old new source middle rest sink result after denied long reads is took h = elim h [
   | inl more ↦ inr (none Malformed head old new source rest sink result after denied more.why (SourceGave-nothing head took more.untaken)
       (record {
         size = long;
@@ -176,38 +197,38 @@ by-kind kinds.Write side head q old new source middle rest sink result after den
       })
       more.disk more.silent more.noted)
   | inr served ↦ elim served [
-    | inl w ↦ one kinds.Write side head q w.payload w.error [] old new source rest sink result after denied long reads is w.noted (w.size, w.few, refl, w.writes)
+    | inl w ↦ one kinds.Write side wanting head q w.payload w.error [] old new source rest sink result after denied long reads is w.noted (w.size, w.few, refl, w.writes)
         (SourceGave-then took w.took) (gives-bare (reply_head w.error q.cookie) result sink after w.gives)
-    | inr cut ↦ no_bytes side head q old new source middle rest sink result after denied long reads is took cut
+    | inr cut ↦ no_bytes side wanting head q old new source middle rest sink result after denied long reads is took cut
   ]
 ]
-by-kind kinds.WriteZeroes side head q old new source middle rest sink result after denied long reads is took h =
-    one kinds.WriteZeroes side head q [] h.1.error [] old new source rest sink result after denied long reads is h.1.noted (refl, refl, h.1.writes) (bare took h.0) (gives-bare (reply_head h.1.error q.cookie) result sink after h.1.gives)
-by-kind kinds.Flush side head q old new source middle rest sink result after denied long reads is took h =
-    one kinds.Flush side head q [] h.1.error [] old new source rest sink result after denied long reads is h.1.noted (refl, refl, h.1.flushes) (bare took h.0) (gives-bare (reply_head h.1.error q.cookie) result sink after h.1.gives)
-by-kind kinds.Unknown side head q old new source middle rest sink result after denied long reads is took h =
-    one kinds.Unknown side head q [] Invalid [] old new source rest sink result after denied long reads is h.3 (refl, refl, refl, h.1) (bare took h.0) (gives-bare (reply_head Invalid q.cookie) result sink after h.2)
-by-kind kinds.Disconnect side head q old new source middle rest sink result after denied long reads is took h =
+by-kind kinds.WriteZeroes side wanting head q old new source middle rest sink result after denied long reads is took h =
+    one kinds.WriteZeroes side wanting head q [] h.1.error [] old new source rest sink result after denied long reads is h.1.noted (refl, refl, h.1.writes) (bare took h.0) (gives-bare (reply_head h.1.error q.cookie) result sink after h.1.gives)
+by-kind kinds.Flush side wanting head q old new source middle rest sink result after denied long reads is took h =
+    one kinds.Flush side wanting head q [] h.1.error [] old new source rest sink result after denied long reads is h.1.noted (refl, refl, h.1.flushes) (bare took h.0) (gives-bare (reply_head h.1.error q.cookie) result sink after h.1.gives)
+by-kind kinds.Unknown side wanting head q old new source middle rest sink result after denied long reads is took h =
+    one kinds.Unknown side wanting head q [] Invalid [] old new source rest sink result after denied long reads is h.3 (refl, refl, refl, h.1) (bare took h.0) (gives-bare (reply_head Invalid q.cookie) result sink after h.2)
+by-kind kinds.Disconnect side wanting head q old new source middle rest sink result after denied long reads is took h =
     inr (none Closed head old new source rest sink result after denied h.0 (SourceGave-nothing head took h.1) (inl (record { size = long; request = q; reads = reads; kind = is })) h.2 h.3 h.4)
 
-pub request_served : (side : Side) (head : List ℕ) (q : Request) (old new : DiskState) (source middle rest : SourceState) (sink : SinkState) (result : Result (Unit {0}) End) (after : SinkState) (denied : Bool)
-    → length head ≡ 28 → request_in head ≡ Some q → SourceGave head source middle → KindIsServed (request_kind q.code) side q old new middle rest sink result after denied
-    → ServesRequest side old new source rest sink result after denied
-request_served side head q old new source middle rest sink result after denied long reads took h =
-    by-kind (request_kind q.code) side head q old new source middle rest sink result after denied long reads refl took h
+pub request_served : (side : Side) (wanting : Bool) (head : List ℕ) (q : Request) (old new : DiskState) (source middle rest : SourceState) (sink : SinkState) (result : Result (Unit {0}) End) (after : SinkState) (denied : Option Denial)
+    → length head ≡ 28 → request_in head ≡ Some q → SourceGave head source middle → KindIsServed (request_kind q.code) side wanting q old new middle rest sink result after denied
+    → ServesRequest side wanting old new source rest sink result after denied
+request_served side wanting head q old new source middle rest sink result after denied long reads took h =
+    by-kind (request_kind q.code) side wanting head q old new source middle rest sink result after denied long reads refl took h
 
 -- 28 bytes that aren't a request
 pub no_request : (head : List ℕ) (d : DiskState) (source rest : SourceState) (sink : SinkState) → length head ≡ 28 → request_in head ≡ None → SourceGave head source rest
-    → ServesNone d d source rest sink (Err Malformed) sink false
+    → ServesNone d d source rest sink (Err Malformed) sink None
 no_request head d source rest sink long reads took =
-    none Malformed head d d source rest sink (Err Malformed) sink false refl took
+    none Malformed head d d source rest sink (Err Malformed) sink None refl took
     (record { size = long; none = λ request same. absurd (none-some request (sym reads ∙ same)) }) refl refl refl
 
 -- the head of a request didn't come
 pub no_head : (end : End) (head : List ℕ) (d : DiskState) (source rest : SourceState) (sink : SinkState) → length head ≡ 28 → Fills head source (Err end) rest
-    → ServesNone d d source rest sink (Err end) sink false
+    → ServesNone d d source rest sink (Err end) sink None
 no_head end head d source rest sink long h =
     let part = part_filled end head source rest h in
     let bytes : List ℕ = take part.count head in
-    none end bytes d d source rest sink (Err end) sink false refl part.gave
+    none end bytes d d source rest sink (Err end) sink None refl part.gave
     (cut_stops end bytes head source source rest (omega arith) (inl (fewer 28 part.count head long part.within)) h) refl refl refl

@@ -1,5 +1,5 @@
 -- A whole session, from its negotiation and the run of its requests.
-use Rattle.std.proofs.Common.{◌≡◌, ◌∙◌, inl, inr, Bool, false, ℕ, ◌≤◌, List, [], ◌∷◌, ◌++◌, map, Result, Ok, Err, OnErr, OnOk, refl, ap, sym, subst, arith, append-nil, append_assoc}
+use Rattle.std.proofs.Common.{◌≡◌, ◌∙◌, inl, inr, ℕ, ◌≤◌, List, [], ◌∷◌, ◌++◌, map, Result, Ok, Err, OnErr, OnOk, refl, ap, sym, subst, arith, append-nil, append_assoc}
 use Rattle.std.specs.List.{flat_map}
 use Rattle.block_traits.specs.Disk.{DiskState, FailsIn, Logs}
 use Rattle.block_traits.specs.declared.disk.Event.TheVariants.{Flush}
@@ -14,14 +14,16 @@ use Rattle.nbd_negotiation.specs.declared.streams.End.TheVariants.{Closed, ReadF
 use Rattle.nbd_negotiation.proofs.Filling.{SourceGave-then}
 use Rattle.nbd_negotiation.proofs.Giving.{gave-then}
 use Rattle.nbd_session.specs.Export.{export_for}
+use Rattle.nbd_session.specs.Denials.{no_denials}
 use Rattle.nbd_session.specs.Requests.{Exchange, Side, most, reply_of}
 use Rattle.nbd_session.specs.Runs.{EndsRun, ServesRun}
 use Rattle.nbd_session.specs.Session.{FlushesLast, HasSession, Talks}
 use Rattle.nbd_session.specs.Stops.{exchange_bytes}
+use Rattle.nbd_session.specs.declared.denials.Denials.{Denials}
 
 -- a session came to no requests
 ended_before : (export : Export) (side : Side) (end : End) (d : DiskState) (source rest : SourceState) (sink after : SinkState) → export ≡ export_for side d most
-    → Negotiates export source rest sink (Err end) after → Talks side end false source rest sink after d d
+    → Negotiates export source rest sink (Err end) after → Talks side end no_denials source rest sink after d d
 ended_before export side end d source rest sink after told h = record {
   talk = record { flags = h.flags; client = h.client; options = h.options; exchanges = []; rest = h.bytes };
   took = h.took;
@@ -39,12 +41,13 @@ ended_before export side end d source rest sink after told h = record {
   noted = refl;
 }
 
-pub ended_early : (export : Export) (side : Side) (end : End) (old new : DiskState) (source rest : SourceState) (sink after : SinkState) → export ≡ export_for side old most → new ≡ old
-    → Negotiates export source rest sink (Err end) after → Talks side end false source rest sink after old new
-ended_early export side end old new source rest sink after told same h =
-    subst (λ (d : DiskState). Talks side end false source rest sink after old d) (sym same) (ended_before export side end old source rest sink after told h)
+pub ended_early : (export : Export) (side : Side) (end : End) (denied : Denials) (old new : DiskState) (source rest : SourceState) (sink after : SinkState) → export ≡ export_for side old most → denied ≡ no_denials → new ≡ old
+    → Negotiates export source rest sink (Err end) after → Talks side end denied source rest sink after old new
+ended_early export side end denied old new source rest sink after told none same h =
+    subst (λ (d : Denials). Talks side end d source rest sink after old new) (sym none)
+    (subst (λ (d : DiskState). Talks side end no_denials source rest sink after old d) (sym same) (ended_before export side end old source rest sink after told h))
 
--- the faults are counted from an earlier time
+-- the faults are with_denied from an earlier time
 EndsRun-earlier : (end : End) (xs : List Exchange) (bytes : List ℕ) (source middle rest : SourceState) → source.faults ≤ middle.faults → EndsRun end xs bytes middle rest → EndsRun end xs bytes source rest
 EndsRun-earlier Closed xs bytes source middle rest later h = h
 EndsRun-earlier ReadFault xs bytes source middle rest later h = (h.0, omega (arith, later, h.1))
@@ -57,7 +60,7 @@ said_all flags options bytes more none =
     append_assoc flags (options ++ bytes) more
     ∙ ap (λ (l : List ℕ). flags ++ l) (append_assoc options bytes more ∙ ap (λ (l : List ℕ). options ++ (l ++ more)) none)
 
-talked_on : (export : Export) (side : Side) (end : End) (old new : DiskState) (source middle rest : SourceState) (sink between after : SinkState) (denied : Bool) (flags : List ℕ) → export ≡ export_for side old most
+talked_on : (export : Export) (side : Side) (end : End) (old new : DiskState) (source middle rest : SourceState) (sink between after : SinkState) (denied : Denials) (flags : List ℕ) → export ≡ export_for side old most
     → (h : Negotiates export source middle sink (Ok tt) between) → (run : ServesRun side old new middle rest between end after denied) → Talks side end denied source rest sink after old new
 talked_on export side end old new source middle rest sink between after denied flags told h run = elim h.why [
   | inl unknown ↦ absurd (let no : ⊥ = cc (unknown.why) in no)
@@ -76,7 +79,7 @@ talked_on export side end old new source middle rest sink between after denied f
   }
 ]
 
-pub talked : (done : Unit {0}) (export : Export) (side : Side) (end : End) (old before new : DiskState) (source middle rest : SourceState) (sink between after : SinkState) (denied : Bool) → export ≡ export_for side old most → before ≡ old
+pub talked : (done : Unit {0}) (export : Export) (side : Side) (end : End) (old before new : DiskState) (source middle rest : SourceState) (sink between after : SinkState) (denied : Denials) → export ≡ export_for side old most → before ≡ old
     → Negotiates export source middle sink (Ok done) between → ServesRun side before new middle rest between end after denied → Talks side end denied source rest sink after old new
 talked done export side end old before new source middle rest sink between after denied told same h run =
     talked_on export side end old new source middle rest sink between after denied [] told h (subst (λ (d : DiskState). ServesRun side d new middle rest between end after denied) same run)
@@ -87,6 +90,6 @@ closes : {E : Type 0} (flushed : Result (Unit {0}) E) (old new : DiskState) → 
 closes (Ok done) old new ok err = ok
 closes (Err failed) old new ok err = err
 
-pub closed_so : {E : Type 0} (side : Side) (end : End) (denied : Bool) (source rest : SourceState) (sink after : SinkState) (flushed : Result (Unit {0}) E) (old last new : DiskState)
+pub closed_so : {E : Type 0} (side : Side) (end : End) (denied : Denials) (source rest : SourceState) (sink after : SinkState) (flushed : Result (Unit {0}) E) (old last new : DiskState)
     → Talks side end denied source rest sink after old last → OnOk flushed (Logs (Flush ∷ []) last new) → OnErr flushed (FailsIn (Flush ∷ []) last new) → HasSession side end denied source rest sink after flushed old new
 closed_so side end denied source rest sink after flushed old last new talks ok err = record { last = last; talks = talks; closed = closes flushed last new ok err }

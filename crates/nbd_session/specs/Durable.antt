@@ -13,7 +13,7 @@ use Rattle.readings.specs.Writes.{data_steps}
 use Rattle.nbd_words.specs.Transmission.{has_fua, request_kind}
 use Rattle.nbd_words.specs.declared.transmission.Request.{Request}
 use Rattle.nbd_words.specs.declared.transmission.ReplyError.{ReplyError}
-use Rattle.nbd_words.specs.declared.transmission.ReplyError.TheVariants.{Done, ReadOnly, Failed, Invalid, PassesEnd}
+use Rattle.nbd_words.specs.declared.transmission.ReplyError.TheVariants.{Done, ReadOnly, Failed, Invalid, PassesEnd, NoRoom}
 use Rattle.nbd_words.specs.declared.transmission.RequestKind.{RequestKind}
 use Rattle.nbd_words.specs.declared.transmission.RequestKind.TheVariants as kinds
 use Rattle.nbd_session.specs.Requests.{Exchange, range_of, zeros_of}
@@ -63,6 +63,8 @@ IsOfKind kind k c x whole = Unit {0}
 abbrev pub DidBy : ReplyError → RequestKind → ℕ → Keying → Content → Exchange → Deed → Type 0
 DidBy Done kind number k c x d = IsOfKind kind k c x d.whole × (d.count ≡ length (steps_of_kind kind number k x d.whole))
 DidBy Failed kind number k c x d =
+    (d.count ≡ 0) ⊎ (IsOfKind kind k c x d.whole × (d.count ≤ length (steps_of_kind kind number k x d.whole)))
+DidBy NoRoom kind number k c x d =
     (d.count ≡ 0) ⊎ (IsOfKind kind k c x d.whole × (d.count ≤ length (steps_of_kind kind number k x d.whole)))
 DidBy ReadOnly kind number k c x d = d.count ≡ 0
 DidBy Invalid kind number k c x d = d.count ≡ 0

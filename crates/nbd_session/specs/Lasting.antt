@@ -25,7 +25,7 @@ use Rattle.readings.specs.Writings.{PutUnit, Writing, Put}
 use Rattle.sealing.specs.Sectors.{unit_place, unit_size, units}
 use Rattle.nbd_words.specs.Transmission.{has_fua, request_kind}
 use Rattle.nbd_words.specs.declared.transmission.ReplyError.{ReplyError}
-use Rattle.nbd_words.specs.declared.transmission.ReplyError.TheVariants.{Done, ReadOnly, Failed, Invalid, PassesEnd}
+use Rattle.nbd_words.specs.declared.transmission.ReplyError.TheVariants.{Done, ReadOnly, Failed, Invalid, PassesEnd, NoRoom}
 use Rattle.nbd_words.specs.declared.transmission.RequestKind.{RequestKind}
 use Rattle.nbd_words.specs.declared.transmission.RequestKind.TheVariants as kinds
 use Rattle.nbd_session.specs.Durable.{Deed, Survives, exchange_steps, session_steps}
@@ -49,6 +49,7 @@ AreApart k r q =
 abbrev pub IsRefusingReply : ReplyError → Type 0
 IsRefusingReply Done = ⊥
 IsRefusingReply Failed = ⊥
+IsRefusingReply NoRoom = ⊥
 IsRefusingReply ReadOnly = Unit {0}
 IsRefusingReply Invalid = Unit {0}
 IsRefusingReply PassesEnd = Unit {0}
@@ -120,6 +121,7 @@ AnswersWith Failed y bytes old = FailsIn [] old y.next
 AnswersWith ReadOnly y bytes old = ⊥
 AnswersWith Invalid y bytes old = Unit {0}
 AnswersWith PassesEnd y bytes old = ⊥
+AnswersWith NoRoom y bytes old = ⊥
 
 abbrev pub ReadsLasting : Keying → List Exchange → Content → List Deed → Type 0
 ReadsLasting k xs c deeds = (x : Exchange) (bytes : List ℕ) (part : ByteRange) (a : IsAcknowledged k xs x bytes part) (t : ℕ) (image : List (List ℕ)) →

@@ -1,4 +1,5 @@
 pub mod Requests
+pub mod Denials
 pub mod Stops
 pub mod Export
 pub mod Served

@@ -7,13 +7,15 @@ use Rattle.byte_ranges.specs.Ranges.{IsInside}
 use Rattle.byte_ranges.specs.Reads.{CannotReadRange, IsRangeReadAs}
 use Rattle.byte_ranges.specs.Writes.{CannotSplice, IsWrittenInPart, IsWrittenWhole}
 use Rattle.byte_ranges.specs.declared.ranges.ByteRange.{ByteRange}
+use Rattle.byte_ranges.specs.declared.splices.Written.{Written}
+use Rattle.byte_ranges.specs.declared.splices.Written.TheVariants.{Whole, EdgeUnread, WriteFailed, FlushFailed}
 use Rattle.eli_base.specs.Keying.{Keying}
 use Rattle.nbd_words.specs.Transmission.{flags_limit, has_fua, reply_head, request_in, request_kind}
 use Rattle.nbd_words.specs.declared.transmission.Request.{Request}
 use Rattle.nbd_words.specs.declared.transmission.RequestKind.{RequestKind}
 use Rattle.nbd_words.specs.declared.transmission.RequestKind.TheVariants as kinds
 use Rattle.nbd_words.specs.declared.transmission.ReplyError.{ReplyError}
-use Rattle.nbd_words.specs.declared.transmission.ReplyError.TheVariants.{Done, ReadOnly, Failed, Invalid, PassesEnd}
+use Rattle.nbd_words.specs.declared.transmission.ReplyError.TheVariants.{Done, ReadOnly, Failed, Invalid, PassesEnd, NoRoom}
 use Rattle.provider.specs.Attached.{Attached}
 
 -- the most bytes of a request
@@ -66,6 +68,7 @@ AnswersRead side q Failed bytes old new = MayRead side.keying old q × (bytes �
 AnswersRead side q Invalid bytes old new = IsRefusedRead side.keying old q × (bytes ≡ []) × (new ≡ old)
 AnswersRead side q ReadOnly bytes old new = ⊥
 AnswersRead side q PassesEnd bytes old new = ⊥
+AnswersRead side q NoRoom bytes old new = ⊥
 
 -- ---- writes, of bytes or of zeros
 
@@ -82,17 +85,31 @@ IsRefusedWrite side d q Invalid = (side.readonly ≡ false) × IsIllFormedReques
 IsRefusedWrite side d q PassesEnd = (side.readonly ≡ false) × IsWellFormedRequest q × (FitsIn side.keying d q → ⊥)
 IsRefusedWrite side d q Done = ⊥
 IsRefusedWrite side d q Failed = ⊥
+IsRefusedWrite side d q NoRoom = ⊥
 
--- the reply to a write of these bytes
-abbrev pub AnswersWrite : Side → Request → List ℕ → ReplyError → DiskState → DiskState → Type 0
-AnswersWrite side q payload Done old new =
+-- The reply to a write of these bytes, after which the disk says whether room was wanting at its last failed write. If
+-- so, and a write of the disk failed, the reply is that there is no room; an edge that can't be read and a flush that
+-- fails are faults whatever it says.
+abbrev pub AnswersWrite : Side → Bool → Request → List ℕ → ReplyError → DiskState → DiskState → Type 0
+AnswersWrite side wanting q payload Done old new =
     MayWrite side old q × IsWrittenWhole side.keying (range_of q) (has_fua q.flags) payload old new
-AnswersWrite side q payload Failed old new =
+AnswersWrite side wanting q payload Failed old new =
     MayWrite side old q
-    × (CannotSplice side.keying (range_of q) old new ⊎ IsWrittenInPart side.keying (range_of q) (has_fua q.flags) payload old new)
-AnswersWrite side q payload ReadOnly old new = IsRefusedWrite side old q ReadOnly × (new ≡ old)
-AnswersWrite side q payload Invalid old new = IsRefusedWrite side old q Invalid × (new ≡ old)
-AnswersWrite side q payload PassesEnd old new = IsRefusedWrite side old q PassesEnd × (new ≡ old)
+    × (CannotSplice side.keying (range_of q) old new
+      ⊎ (((wanting ≡ false) ⊎ (has_fua q.flags ≡ true)) × IsWrittenInPart side.keying (range_of q) (has_fua q.flags) payload old new))
+AnswersWrite side wanting q payload NoRoom old new =
+    MayWrite side old q × (wanting ≡ true) × IsWrittenInPart side.keying (range_of q) (has_fua q.flags) payload old new
+AnswersWrite side wanting q payload ReadOnly old new = IsRefusedWrite side old q ReadOnly × (new ≡ old)
+AnswersWrite side wanting q payload Invalid old new = IsRefusedWrite side old q Invalid × (new ≡ old)
+AnswersWrite side wanting q payload PassesEnd old new = IsRefusedWrite side old q PassesEnd × (new ≡ old)
+
+-- the reply by what became of a write
+abbrev pub write_error : Written → Bool → ReplyError
+write_error Whole wanting = Done
+write_error EdgeUnread wanting = Failed
+write_error WriteFailed true = NoRoom
+write_error WriteFailed false = Failed
+write_error FlushFailed wanting = Failed
 
 -- the bytes of a request for zeros
 abbrev pub zeros_of : Request → List ℕ
@@ -107,24 +124,27 @@ AnswersFlush q Failed old new = HasKnownFlags q × FailsIn (Flush ∷ []) old ne
 AnswersFlush q Invalid old new = HasUnknownFlags q × (new ≡ old)
 AnswersFlush q ReadOnly old new = ⊥
 AnswersFlush q PassesEnd old new = ⊥
+AnswersFlush q NoRoom old new = ⊥
 
 -- ---- one exchange
 
--- a request, as its head says, with the bytes of a write, and the reply: the error and the bytes that were read
+-- a request, as its head says, with the bytes of a write, and the reply: the error and the bytes that were read; and
+-- whether the disk then said that room was wanting
 pub record Exchange : Type 0 where
   pub head : List ℕ
   pub request : Request
   pub payload : List ℕ
   pub error : ReplyError
   pub bytes : List ℕ
+  pub wanting : Bool
   pub next : DiskState
 
 -- what is done for each kind of request; a disconnection has no reply, so it is no exchange
 abbrev pub ServesKind : RequestKind → Side → Exchange → DiskState → Type 0
 ServesKind kinds.Read side x old = (x.payload ≡ []) × AnswersRead side x.request x.error x.bytes old x.next
 ServesKind kinds.Write side x old =
-    (length x.payload ≡ x.request.length) × (x.request.length ≤ most) × (x.bytes ≡ []) × AnswersWrite side x.request x.payload x.error old x.next
-ServesKind kinds.WriteZeroes side x old = (x.payload ≡ []) × (x.bytes ≡ []) × AnswersWrite side x.request (zeros_of x.request) x.error old x.next
+    (length x.payload ≡ x.request.length) × (x.request.length ≤ most) × (x.bytes ≡ []) × AnswersWrite side x.wanting x.request x.payload x.error old x.next
+ServesKind kinds.WriteZeroes side x old = (x.payload ≡ []) × (x.bytes ≡ []) × AnswersWrite side x.wanting x.request (zeros_of x.request) x.error old x.next
 ServesKind kinds.Flush side x old = (x.payload ≡ []) × (x.bytes ≡ []) × AnswersFlush x.request x.error old x.next
 ServesKind kinds.Unknown side x old = (x.payload ≡ []) × (x.bytes ≡ []) × (x.error ≡ Invalid) × (x.next ≡ old)
 ServesKind kinds.Disconnect side x old = ⊥
@@ -136,21 +156,6 @@ pub record IsRequest (x : Exchange) : Type 0 where
 
 abbrev pub ServesExchange : Side → Exchange → DiskState → Type 0
 ServesExchange side x old = IsRequest x × ServesKind (request_kind x.request.code) side x old
-
--- an error by which a client knows that not all was done
-abbrev pub is_error : ReplyError → Bool
-is_error Done = false
-is_error error = true
-
--- whether a request was to change or to flush the disk, and was answered with an error
-abbrev pub denied_by : RequestKind → ReplyError → Bool
-denied_by kinds.Write error = is_error error
-denied_by kinds.WriteZeroes error = is_error error
-denied_by kinds.Flush error = is_error error
-denied_by kind error = false
-
-abbrev pub is_denied : Exchange → Bool
-is_denied x = denied_by (request_kind x.request.code) x.error
 
 -- the bytes of the reply
 abbrev pub reply_of : Exchange → List ℕ

@@ -1,6 +1,6 @@
 -- A whole session: what was taken of the client and given to it, and what became of the provider.
-use Rattle.std.specs.Prelude.{◌≡◌, ◌⊎◌, ℕ, List, [], ◌∷◌, ◌++◌, map, Bool, Result, Ok, Err}
-use Rattle.std.specs.List.{flat_map, list_any}
+use Rattle.std.specs.Prelude.{◌≡◌, ◌⊎◌, ℕ, List, [], ◌∷◌, ◌++◌, map, Result, Ok, Err}
+use Rattle.std.specs.List.{flat_map}
 use Rattle.block_traits.specs.Disk.{DiskState, FailsIn, Logs}
 use Rattle.block_traits.specs.Streams.{SinkState, SourceState}
 use Rattle.block_traits.specs.declared.disk.Event.TheVariants.{Flush}
@@ -13,9 +13,11 @@ use Rattle.nbd_negotiation.specs.Streams.{GivesTexts, SourceGave}
 use Rattle.nbd_negotiation.specs.declared.negotiation.Outcome.TheVariants.{Serving}
 use Rattle.nbd_negotiation.specs.declared.streams.End.{End}
 use Rattle.nbd_session.specs.Export.{export_for}
-use Rattle.nbd_session.specs.Requests.{Exchange, ServesExchanges, Side, is_denied, most, reply_of}
+use Rattle.nbd_session.specs.Denials.{denials_in}
+use Rattle.nbd_session.specs.Requests.{Exchange, ServesExchanges, Side, most, reply_of}
 use Rattle.nbd_session.specs.Runs.{EndsRun}
 use Rattle.nbd_session.specs.Stops.{exchange_bytes}
+use Rattle.nbd_session.specs.declared.denials.Denials.{Denials}
 
 -- What was taken of a client: the bytes of its flags and what they say of it, its options, its requests that were
 -- served, and the bytes of nothing that could be served.
@@ -67,18 +69,18 @@ FlushesLast (Err failed) old new = FailsIn (Flush ∷ []) old new
 -- What became of a client and a provider on a disk, before the last flush. Just what the client sent was taken, and
 -- just the replies were given, one for each option and request, in order. If the sink failed, all but the last were
 -- given whole, and nothing was taken after that. The export that the client was told of is the provider. Each request
--- was served on the disk that the one before it left. It is also said whether a write, a request for zeros or a flush
--- was answered with an error.
-pub record Talks (side : Side) (end : End) (denied : Bool) (source rest : SourceState) (sink after : SinkState) (old new : DiskState) : Type 0 where
+-- was served on the disk that the one before it left. It is also said how many writes, requests for zeros and flushes
+-- were answered with an error, and which was the first.
+pub record Talks (side : Side) (end : End) (denied : Denials) (source rest : SourceState) (sink after : SinkState) (old new : DiskState) : Type 0 where
   pub talk : Talk
   pub took : SourceGave (bytes_said talk) source rest
   pub gave : GivesTexts end (texts_given (export_for side old most) talk) sink after
   pub why : SessionEndsBy end talk source rest
   pub served : ServesExchanges side talk.exchanges old new
-  pub noted : denied ≡ list_any is_denied talk.exchanges
+  pub noted : denied ≡ denials_in talk.exchanges
 
 -- the whole session: at last the disk was flushed, however the session ended
-pub record HasSession {E : Type 0} (side : Side) (end : End) (denied : Bool) (source rest : SourceState) (sink after : SinkState) (flushed : Result (Unit {0}) E) (old new : DiskState) : Type 0 where
+pub record HasSession {E : Type 0} (side : Side) (end : End) (denied : Denials) (source rest : SourceState) (sink after : SinkState) (flushed : Result (Unit {0}) E) (old new : DiskState) : Type 0 where
   pub last : DiskState
   pub talks : Talks side end denied source rest sink after old last
   pub closed : FlushesLast flushed last new

@@ -1,5 +1,5 @@
 //! What holds of sessions, whatever the disk.
-ghost use Rattle.std.specs.Prelude.{◌≡◌, Bool, List, Ok, Some};
+ghost use Rattle.std.specs.Prelude.{◌≡◌, List, Ok, Some};
 ghost use Rattle.block_traits.specs.Content.{Content};
 ghost use Rattle.block_traits.specs.Disk.{DiskState};
 ghost use Rattle.block_traits.specs.Streams.{SinkState, SourceState};
@@ -11,6 +11,7 @@ ghost use Rattle.nbd_session.specs.Durable.{Survives};
 ghost use Rattle.nbd_session.specs.Lasting.{AttachesLasting, AttachesLastingOrLater, HoldsOrLater, KeepsIn, LastsIn, PartsLastOrLater, ReadsLasting, ReadsLastingOrLater, SurvivesClosed, UnitsLastOrLater};
 ghost use Rattle.nbd_session.specs.Requests.{Exchange, ServesExchanges, Side};
 ghost use Rattle.nbd_session.specs.Session.{HasSession};
+ghost use Rattle.nbd_session.specs.declared.denials.Denials.{Denials};
 
 use block_traits::Disk;
 
@@ -55,6 +56,6 @@ pub fn flushed_ranges_keep()
 /// After a session whose last flush was made, each write that was acknowledged lasts, whether or not the client flushed
 /// it.
 pub fn closed_sessions_last()
-    ensures { (side : Side) (end : End) (denied : Bool) (source rest : SourceState) (sink given : SinkState) (old new : DiskState) (c : Content) → IsKeying side.keying → old.content ≡ Some c →
+    ensures { (side : Side) (end : End) (denied : Denials) (source rest : SourceState) (sink given : SinkState) (old new : DiskState) (c : Content) → IsKeying side.keying → old.content ≡ Some c →
         (h : HasSession {E = DiskFailed} side end denied source rest sink given (Ok tt) old new) → SurvivesClosed side.keying h.talks.talk.exchanges c h.last new }
 {}

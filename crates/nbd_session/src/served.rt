@@ -4,11 +4,12 @@ ghost use Rattle.provider.specs.Attached.{IsKept};
 ghost use Rattle.byte_ranges.specs.Ranges.{skipped};
 ghost use Rattle.nbd_words.specs.Transmission.{reply_head, request_kind};
 ghost use Rattle.nbd_negotiation.specs.Streams.{GivesBytes};
-ghost use Rattle.nbd_session.specs.Requests.{AnswersFlush, AnswersWrite, HasKnownFlags, HasUnknownFlags, IsIllFormedRequest, IsRefusedRead, IsRefusedWrite, IsWellFormedRequest, MayRead, MayWrite, is_error, range_of, side_of, zeros_of};
+ghost use Rattle.nbd_session.specs.Requests.{AnswersFlush, AnswersWrite, HasKnownFlags, HasUnknownFlags, IsIllFormedRequest, IsRefusedRead, IsRefusedWrite, IsWellFormedRequest, MayRead, MayWrite, write_error, range_of, side_of, zeros_of};
 ghost use Rattle.nbd_session.specs.Served.{FlushIsAnswered, KindIsServed, ReadIsAnswered, ServesRequest, WriteIsServed, ZerosAreAnswered};
 
+use crate::denials::{Denial, DeniedKind, denial_where};
 use block_traits::{Disk, Sink, Source};
-use byte_ranges::{ByteRange, cover_of, has_range, read_range, write_range};
+use byte_ranges::{ByteRange, Written, cover_of, has_range, read_range, write_range};
 use nbd_negotiation::{End, fill, give_all};
 use nbd_words::{
     REPLY_HEAD, ReplyError, Request, RequestKind, flags_limit, has_fua, reply_head, request_in,
@@ -19,27 +20,27 @@ use provider::Provider;
 /// The most bytes of a request.
 pub const MOST: u32 = 33_554_432;
 
-/// Takes a request and replies to it. It returns whether the session goes on, and whether this was a write, a request
-/// for zeros or a flush that was answered with an error.
+/// Takes a request and replies to it. It returns whether the session goes on, and what was denied, if this was a write, a
+/// request for zeros or a flush that was answered with an error.
 pub fn serve_request<D: Disk, S: Source, K: Sink>(
     provider: &mut Provider<D>,
     room: &mut [u8],
     edge: &mut [u8],
     input: &mut S,
     output: &mut K,
-) -> (Result<(), End>, bool)
+) -> (Result<(), End>, Option<Denial>)
     requires room { length room.old ≡ 33685520 }
     requires edge { length edge.old ≡ 65536 }
-    ensures serves { ServesRequest (side_of provider.old) (D.state provider.old.disk) (D.state provider.new.disk)
+    ensures serves { ServesRequest (side_of provider.old) (D.wants_room provider.new.disk) (D.state provider.old.disk) (D.state provider.new.disk)
         (S.state input.old) (S.state input.new) (K.state output.old) result.0 (K.state output.new) result.1 }
     ensures kept { IsKept provider.old provider.new }
 {
     let mut head = [0; 28];
     if let Err(end) = fill(input, &mut head) {
-        return (Err(end), false);
+        return (Err(end), None);
     }
     let Some(request) = request_in(&head) else {
-        return (Err(End::Malformed), false);
+        return (Err(End::Malformed), None);
     };
     serve_by_kind(provider, room, edge, &request, input, output)
 }
@@ -52,25 +53,25 @@ fn serve_by_kind<D: Disk, S: Source, K: Sink>(
     request: &Request,
     input: &mut S,
     output: &mut K,
-) -> (Result<(), End>, bool)
+) -> (Result<(), End>, Option<Denial>)
     requires room { length room.old ≡ 33685520 }
     requires edge { length edge.old ≡ 65536 }
-    ensures serves { KindIsServed (request_kind request.now.code) (side_of provider.old) request.now (D.state provider.old.disk) (D.state provider.new.disk)
+    ensures serves { KindIsServed (request_kind request.now.code) (side_of provider.old) (D.wants_room provider.new.disk) request.now (D.state provider.old.disk) (D.state provider.new.disk)
         (S.state input.old) (S.state input.new) (K.state output.old) result.0 (K.state output.new) result.1 }
     ensures kept { IsKept provider.old provider.new }
 {
     match request_kind(request.code) {
-        RequestKind::Read => (serve_read(provider, room, request, output), false),
+        RequestKind::Read => (serve_read(provider, room, request, output), None),
         RequestKind::Write => {
             if request.length > MOST {
-                return (Err(End::Malformed), false);
+                return (Err(End::Malformed), None);
             }
             serve_write(provider, room, edge, request, input, output)
         }
         RequestKind::WriteZeroes => serve_zeros(provider, room, edge, request, output),
-        RequestKind::Disconnect => (Err(End::Closed), false),
+        RequestKind::Disconnect => (Err(End::Closed), None),
         RequestKind::Flush => serve_flush(provider, request, output),
-        RequestKind::Unknown => (answer(ReplyError::Invalid, request, output), false),
+        RequestKind::Unknown => (answer(ReplyError::Invalid, request, output), None),
     }
 }
 
@@ -78,19 +79,13 @@ fn serve_flush<D: Disk, K: Sink>(
     provider: &mut Provider<D>,
     request: &Request,
     output: &mut K,
-) -> (Result<(), End>, bool)
+) -> (Result<(), End>, Option<Denial>)
     ensures answers { FlushIsAnswered request.now (D.state provider.old.disk) (D.state provider.new.disk) (K.state output.old) result.0 (K.state output.new) result.1 }
     ensures kept { IsKept provider.old provider.new }
 {
     let error = flush(provider, request);
-    (answer(error, request, output), is_error(error))
-}
-
-// Whether a reply is an error.
-fn is_error(error: ReplyError) -> bool
-    ensures { result ≡ is_error error }
-{
-    error != ReplyError::Done
+    let denied = denial_where(error, DeniedKind::Flush, request.offset);
+    (answer(error, request, output), denied)
 }
 
 // A reply without bytes.
@@ -220,11 +215,11 @@ fn serve_write<D: Disk, S: Source, K: Sink>(
     request: &Request,
     input: &mut S,
     output: &mut K,
-) -> (Result<(), End>, bool)
+) -> (Result<(), End>, Option<Denial>)
     requires room { length room.old ≡ 33685520 }
     requires edge { length edge.old ≡ 65536 }
     requires few { request.now.length ≤ 33554432 }
-    ensures serves { WriteIsServed (side_of provider.old) request.now (D.state provider.old.disk) (D.state provider.new.disk)
+    ensures serves { WriteIsServed (side_of provider.old) (D.wants_room provider.new.disk) request.now (D.state provider.old.disk) (D.state provider.new.disk)
         (S.state input.old) (S.state input.new) (K.state output.old) result.0 (K.state output.new) result.1 }
     ensures kept { IsKept provider.old provider.new }
 {
@@ -232,10 +227,11 @@ fn serve_write<D: Disk, S: Source, K: Sink>(
     let size = provider.sector_size() as usize;
     let start = (request.offset % size as u64) as usize;
     if let Err(end) = fill(input, &mut room[start..start + length]) {
-        return (Err(end), false);
+        return (Err(end), None);
     }
     let error = write(provider, room, edge, request);
-    (answer(error, request, output), is_error(error))
+    let denied = denial_where(error, DeniedKind::Write, request.offset);
+    (answer(error, request, output), denied)
 }
 
 // Why a write isn't served, if it isn't.
@@ -264,7 +260,7 @@ fn write<D: Disk>(
 ) -> ReplyError
     requires room { length room.old ≡ 33685520 }
     requires edge { length edge.old ≡ 65536 }
-    ensures writes { AnswersWrite (side_of provider.old) request.now (take request.now.length (drop (skipped provider.old.keying (range_of request.now)) room.old)) result
+    ensures writes { AnswersWrite (side_of provider.old) (D.wants_room provider.new.disk) request.now (take request.now.length (drop (skipped provider.old.keying (range_of request.now)) room.old)) result
         (D.state provider.old.disk) (D.state provider.new.disk) }
     ensures kept { IsKept provider.old provider.new }
 {
@@ -284,7 +280,7 @@ fn write_room<D: Disk>(
     requires room { length room.old ≡ 33685520 }
     requires edge { length edge.old ≡ 65536 }
     requires may { MayWrite (side_of provider.old) (D.state provider.old.disk) request.now }
-    ensures writes { AnswersWrite (side_of provider.old) request.now (take request.now.length (drop (skipped provider.old.keying (range_of request.now)) room.old)) result
+    ensures writes { AnswersWrite (side_of provider.old) (D.wants_room provider.new.disk) request.now (take request.now.length (drop (skipped provider.old.keying (range_of request.now)) room.old)) result
         (D.state provider.old.disk) (D.state provider.new.disk) }
     ensures kept { IsKept provider.old provider.new }
 {
@@ -292,10 +288,26 @@ fn write_room<D: Disk>(
     let cover = cover_of(request.offset, request.length as usize, size);
     let sectors = &mut room[..cover.whole];
     let flush = has_fua(request.flags);
-    if !write_range(provider, sectors, edge, &range_of(request), &cover, flush) {
-        return ReplyError::Failed;
+    let written = write_range(provider, sectors, edge, &range_of(request), &cover, flush);
+    let wanting = provider.wants_room();
+    write_error(written, wanting)
+}
+
+// The reply to a write, by what became of it and whether room was wanting at the disk's last failed write.
+fn write_error(written: Written, wanting: bool) -> ReplyError
+    ensures { result ≡ write_error written wanting }
+{
+    match written {
+        Written::Whole => ReplyError::Done,
+        Written::WriteFailed => {
+            if wanting {
+                ReplyError::NoRoom
+            } else {
+                ReplyError::Failed
+            }
+        }
+        Written::EdgeUnread | Written::FlushFailed => ReplyError::Failed,
     }
-    ReplyError::Done
 }
 
 // Serves a request for zeros, after which no bytes come.
@@ -305,14 +317,15 @@ fn serve_zeros<D: Disk, K: Sink>(
     edge: &mut [u8],
     request: &Request,
     output: &mut K,
-) -> (Result<(), End>, bool)
+) -> (Result<(), End>, Option<Denial>)
     requires room { length room.old ≡ 33685520 }
     requires edge { length edge.old ≡ 65536 }
-    ensures answers { ZerosAreAnswered (side_of provider.old) request.now (D.state provider.old.disk) (D.state provider.new.disk) (K.state output.old) result.0 (K.state output.new) result.1 }
+    ensures answers { ZerosAreAnswered (side_of provider.old) (D.wants_room provider.new.disk) request.now (D.state provider.old.disk) (D.state provider.new.disk) (K.state output.old) result.0 (K.state output.new) result.1 }
     ensures kept { IsKept provider.old provider.new }
 {
     let error = write_zeros(provider, room, edge, request);
-    (answer(error, request, output), is_error(error))
+    let denied = denial_where(error, DeniedKind::Zeros, request.offset);
+    (answer(error, request, output), denied)
 }
 
 // Writes zeros.
@@ -324,7 +337,7 @@ fn write_zeros<D: Disk>(
 ) -> ReplyError
     requires room { length room.old ≡ 33685520 }
     requires edge { length edge.old ≡ 65536 }
-    ensures writes { AnswersWrite (side_of provider.old) request.now (zeros_of request.now) result (D.state provider.old.disk) (D.state provider.new.disk) }
+    ensures writes { AnswersWrite (side_of provider.old) (D.wants_room provider.new.disk) request.now (zeros_of request.now) result (D.state provider.old.disk) (D.state provider.new.disk) }
     ensures kept { IsKept provider.old provider.new }
 {
     if let Some(error) = write_refusal(provider, request) {

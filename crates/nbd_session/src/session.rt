@@ -7,6 +7,7 @@ ghost use Rattle.nbd_session.specs.Requests.{side_of};
 ghost use Rattle.nbd_session.specs.Runs.{ServesRun};
 ghost use Rattle.nbd_session.specs.Session.{HasSession, Talks};
 
+use crate::denials::{Denials, with_denied};
 use crate::export::export_of;
 use crate::served::{MOST, serve_request};
 use block_traits::{Disk, DiskFailed, Sink, Source};
@@ -21,15 +22,15 @@ pub const ROOM: usize = 33_685_520;
 pub const EDGE: usize = 65_536;
 
 /// Serves a client until it ends, and then flushes the disk, however the session ended. It returns why it ended, the
-/// disk, whether the last flush was made, and whether a write, a request for zeros or a flush was answered with an
-/// error. The room has `ROOM` bytes and the edge `EDGE`; nothing is allocated.
+/// disk, whether the last flush was made, and which writes, requests for zeros and flushes were answered with an error.
+/// The room has `ROOM` bytes and the edge `EDGE`; nothing is allocated.
 pub fn serve<D: Disk, S: Source, K: Sink>(
     provider: Provider<D>,
     room: &mut [u8],
     edge: &mut [u8],
     input: &mut S,
     output: &mut K,
-) -> (End, D, Result<(), DiskFailed>, bool)
+) -> (End, D, Result<(), DiskFailed>, Denials)
     requires room { length room.old ≡ 33685520 }
     requires edge { length edge.old ≡ 65536 }
     ensures { HasSession (side_of provider) result.0 result.3 (S.state input.old) (S.state input.new) (K.state output.old) (K.state output.new)
@@ -49,14 +50,14 @@ fn close<D: Disk>(provider: Provider<D>) -> (D, Result<(), DiskFailed>)
     provider.detach()
 }
 
-// Serves a client until it ends. It returns why it ended, and whether something was denied.
+// Serves a client until it ends. It returns why it ended, and what was denied.
 fn serve_client<D: Disk, S: Source, K: Sink>(
     provider: &mut Provider<D>,
     room: &mut [u8],
     edge: &mut [u8],
     input: &mut S,
     output: &mut K,
-) -> (End, bool)
+) -> (End, Denials)
     requires room { length room.old ≡ 33685520 }
     requires edge { length edge.old ≡ 65536 }
     ensures { Talks (side_of provider.old) result.0 result.1 (S.state input.old) (S.state input.new) (K.state output.old) (K.state output.new)
@@ -65,18 +66,18 @@ fn serve_client<D: Disk, S: Source, K: Sink>(
     let export = export_of(provider, MOST);
     match negotiate(input, output, room, &export) {
         Ok(()) => serve_requests(provider, room, edge, input, output),
-        Err(end) => (end, false),
+        Err(end) => (end, Denials::none()),
     }
 }
 
-// Serves requests until the session ends. It returns why it ended, and whether something was denied.
+// Serves requests until the session ends. It returns why it ended, and what was denied.
 fn serve_requests<D: Disk, S: Source, K: Sink>(
     provider: &mut Provider<D>,
     room: &mut [u8],
     edge: &mut [u8],
     input: &mut S,
     output: &mut K,
-) -> (End, bool)
+) -> (End, Denials)
     requires room { length room.old ≡ 33685520 }
     requires edge { length edge.old ≡ 65536 }
     ensures serves { ServesRun (side_of provider.old) (D.state provider.old.disk) (D.state provider.new.disk)
@@ -84,10 +85,10 @@ fn serve_requests<D: Disk, S: Source, K: Sink>(
     ensures kept { IsKept provider.old provider.new }
 {
     let mut many: u64 = 0;
-    let mut denied = false;
+    let mut denied = Denials::none();
     'many: while many < u64::MAX {
-        let (answered, is_denied) = serve_request(provider, room, edge, input, output);
-        denied |= is_denied;
+        let (answered, denial) = serve_request(provider, room, edge, input, output);
+        denied = with_denied(&denied, denial);
         if let Err(end) = answered {
             return (end, denied);
         }

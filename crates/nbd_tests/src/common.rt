@@ -2,8 +2,8 @@
 use crate::vectors::{
     ASKING, BY_NAME, BY_NAME_WITHOUT_ZEROES, GOING, LEAVING, ONLY_READING, REPLIES, REQUESTS,
 };
-use block_traits::{ByteList, Disk, DiskFailed};
-use crash_disk::{MemDisk, MemEntropy, MemSink, MemSource};
+use block_traits::{ByteList, Disk, DiskFailed, Sink, Source};
+use crash_disk::{MemDisk, MemEntropy};
 use eli_base::{Auth, Cipher};
 use eli_metadata::{Metadata, check, size_gate, slot_gate};
 use key_commands::{InitOptions, init};
@@ -108,12 +108,12 @@ pub(crate) fn made(
 }
 
 // The provider that was made of a disk, attached.
-pub(crate) fn attached(
+pub(crate) fn attached<D: Disk + Drop>(
     alloc: Global,
-    disk: MemDisk,
+    disk: D,
     meta: &Metadata,
     readonly: bool,
-) -> Result<Provider<MemDisk>, Fail> {
+) -> Result<Provider<D>, Fail> {
     let key = derive(&components(alloc)?, &meta.salt, meta.iterations)?;
     let Ok(params) = check(meta) else {
         return Err(Fail::from("the metadata aren't good"));
@@ -125,6 +125,32 @@ pub(crate) fn attached(
         Ok(provider) => Ok(provider),
         Err(_) => Err(Fail::from("the key opens no slot")),
     }
+}
+
+// A provider with 262,144 bytes, as the export of nbdkit.
+pub(crate) fn provider_of(
+    alloc: Global,
+    sectorsize: u32,
+    readonly: bool,
+) -> Result<Provider<MemDisk>, Fail> {
+    let mut disk = MemDisk::new(alloc, 513, 2048)?;
+    let meta = made(alloc, &mut disk, Auth::Off, sectorsize)?;
+    attached(alloc, disk, &meta, readonly)
+}
+
+// What a client sent, and what it was answered.
+#[derive(Drop)]
+pub(crate) struct Talk {
+    pub(crate) said: Vec<u8>,
+    pub(crate) answered: Vec<u8>,
+}
+
+pub(crate) fn talk_of(alloc: Global, session: [&str; 2]) -> Result<Talk, Fail> {
+    let [said, answered] = session;
+    Ok(Talk {
+        said: bytes_of(alloc, said)?,
+        answered: bytes_of(alloc, answered)?,
+    })
 }
 
 // Where clients are served, one after another.
@@ -151,11 +177,11 @@ impl Place {
     }
 
     // Serves a client.
-    pub(crate) fn serves(
+    pub(crate) fn serves<S: Source, K: Sink>(
         &mut self,
         provider: Provider<MemDisk>,
-        input: &mut MemSource,
-        output: &mut MemSink,
+        input: &mut S,
+        output: &mut K,
     ) -> Result<Outcome, Fail> {
         let room: &mut [u8] = &mut self.room;
         let edge: &mut [u8] = &mut self.edge;

@@ -10,6 +10,10 @@ mod messages;
 #[cfg(test)]
 mod requests;
 #[cfg(test)]
+mod room;
+#[cfg(test)]
 mod sessions;
 #[cfg(test)]
 mod vectors;
+#[cfg(test)]
+mod waiting;

@@ -1,37 +1,14 @@
 //! Whole sessions, against those of libnbd with nbdkit, and cut or failing anywhere.
 use crate::common::{
-    Outcome, Place, asking, attached, by_name, by_name_without_zeroes, bytes_of, going, leaving,
-    made, only_reading, piece, replies, requests,
+    Outcome, Place, Talk, asking, by_name, by_name_without_zeroes, going, leaving, only_reading,
+    piece, provider_of, replies, requests, talk_of,
 };
 use block_traits::Event;
 use crash_disk::{MemDisk, MemSink, MemSource};
-use eli_base::Auth;
 use nbd_negotiation::End;
 use provider::Provider;
 use std::alloc::Global;
 use std::test::Fail;
-
-// A provider with 262,144 bytes, as the export of nbdkit.
-fn provider_of(alloc: Global, sectorsize: u32, readonly: bool) -> Result<Provider<MemDisk>, Fail> {
-    let mut disk = MemDisk::new(alloc, 513, 2048)?;
-    let meta = made(alloc, &mut disk, Auth::Off, sectorsize)?;
-    attached(alloc, disk, &meta, readonly)
-}
-
-// What a client sent, and what it was answered.
-#[derive(Drop)]
-struct Talk {
-    said: Vec<u8>,
-    answered: Vec<u8>,
-}
-
-fn talk_of(alloc: Global, session: [&str; 2]) -> Result<Talk, Fail> {
-    let [said, answered] = session;
-    Ok(Talk {
-        said: bytes_of(alloc, said)?,
-        answered: bytes_of(alloc, answered)?,
-    })
-}
 
 // Whether a session ended well: the client left, and the disk's last event is a flush.
 fn ended_well(outcome: &Outcome) -> bool {
@@ -97,7 +74,7 @@ fn the_largest_sectors(rt: HostRuntime) -> Result<(), Fail> {
 
 // How many bytes are sent in reply to the first `taken` bytes of the client of `GOING`. A message is answered once it
 // came whole: the client's flags and its one option, then each request with the bytes of a write.
-fn answered_to(taken: usize) -> usize {
+pub(crate) fn answered_to(taken: usize) -> usize {
     if taken < 28 {
         return 18;
     }
@@ -124,7 +101,7 @@ fn answered_to(taken: usize) -> usize {
 
 // How many bytes are sent in reply to the first `taken` bytes of the client without fixed newstyle that wants no zeros.
 // It sends its flags and its one option, a write of 16 bytes, and a read of as many.
-fn answered_by_name(taken: usize) -> usize {
+pub(crate) fn answered_by_name(taken: usize) -> usize {
     if taken < 20 {
         return 18;
     }

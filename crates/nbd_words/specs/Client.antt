@@ -83,6 +83,11 @@ error_of number =
     if number == 0 then Some errors.Done else if number == 1 then Some errors.ReadOnly else if number == 5 then Some errors.Failed else
     if number == 22 then Some errors.Invalid else if number == 28 then Some errors.PassesEnd else None
 
+-- the error that a client reads: two have the number of NBD_ENOSPC
+abbrev pub told_error : ReplyError → ReplyError
+told_error errors.NoRoom = errors.PassesEnd
+told_error error = error
+
 -- the head of a simple reply
 pub record ReplyHead : Type 0 where
   pub error : ReplyError

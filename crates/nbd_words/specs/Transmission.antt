@@ -7,7 +7,7 @@ use Rattle.nbd_words.specs.declared.transmission.Request.{Request}
 use Rattle.nbd_words.specs.declared.transmission.RequestKind.{RequestKind}
 use Rattle.nbd_words.specs.declared.transmission.RequestKind.TheVariants.{Read, Write, Disconnect, Flush, WriteZeroes, Unknown}
 use Rattle.nbd_words.specs.declared.transmission.ReplyError.{ReplyError}
-use Rattle.nbd_words.specs.declared.transmission.ReplyError.TheVariants.{Done, ReadOnly, Failed, Invalid, PassesEnd}
+use Rattle.nbd_words.specs.declared.transmission.ReplyError.TheVariants.{Done, ReadOnly, Failed, Invalid, PassesEnd, NoRoom}
 
 -- the request in 28 bytes that begin with its magic number
 abbrev pub request_in : List ℕ → Option Request
@@ -41,6 +41,7 @@ error_number ReadOnly = 1
 error_number Failed = 5
 error_number Invalid = 22
 error_number PassesEnd = 28
+error_number NoRoom = 28
 
 -- the head of a simple reply
 abbrev pub reply_head : ReplyError → ℕ → List ℕ

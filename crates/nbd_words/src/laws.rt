@@ -1,6 +1,6 @@
 //! What holds of the messages: each is read back from its bytes.
 ghost use Rattle.std.specs.Prelude.{◌≡◌, ◌*◌, ◌^◌, ◌<◌, List, Some, length, true, ℕ};
-ghost use Rattle.nbd_words.specs.Client.{HasExportInRange, block_sizes_in, client_flags, export_info_in, greeting_in, info_request, option_reply_in, plain_export_in, reply_in};
+ghost use Rattle.nbd_words.specs.Client.{HasExportInRange, block_sizes_in, client_flags, export_info_in, greeting_in, info_request, option_reply_in, plain_export_in, reply_in, told_error};
 ghost use Rattle.nbd_words.specs.Negotiation.{HasHeadInRange, block_size_info, client_flags_in, export_info, greeting, has_info_shape, option_head, option_head_in, option_reply_head, plain_export};
 ghost use Rattle.nbd_words.specs.Transmission.{HasRequestInRange, reply_head, request_bytes, request_in};
 ghost use Rattle.nbd_words.specs.declared.negotiation.ClientFlags.{ClientFlags};
@@ -15,9 +15,9 @@ pub fn requests_read_back()
     ensures { (q : Request) → HasRequestInRange q → request_in (request_bytes q) ≡ Some q }
 {}
 
-/// The head of a simple reply is read back from its bytes.
+/// The head of a simple reply is read back from its bytes. The two errors of one number are read as one.
 pub fn replies_read_back()
-    ensures { (error : ReplyError) (cookie : ℕ) → cookie < 256 ^ 8 → reply_in (reply_head error cookie) ≡ Some (record { error = error; cookie = cookie }) }
+    ensures { (error : ReplyError) (cookie : ℕ) → cookie < 256 ^ 8 → reply_in (reply_head error cookie) ≡ Some (record { error = told_error error; cookie = cookie }) }
 {}
 
 /// The server's first bytes are read back as its handshake flags.

@@ -61,6 +61,8 @@ pub enum ReplyError {
     Invalid,
     /// `NBD_ENOSPC`: a write passes the end.
     PassesEnd,
+    /// `NBD_ENOSPC` too: the disk had no room for a write.
+    NoRoom,
 }
 
 /// The request in these bytes. `None`: they don't begin with the magic number of requests.
@@ -121,7 +123,7 @@ impl ReplyError {
             ReplyError::ReadOnly => 1,
             ReplyError::Failed => 5,
             ReplyError::Invalid => 22,
-            ReplyError::PassesEnd => 28,
+            ReplyError::PassesEnd | ReplyError::NoRoom => 28,
         }
     }
 }

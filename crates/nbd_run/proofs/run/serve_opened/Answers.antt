@@ -9,4 +9,4 @@ returns-clause-serves g c =
     served_disk image_disk_state g.S.Source.state g.K.Sink.state g.L.Sink.state c.args.asked.now.line.items c.args.asked.now.command _
     attached.result ran.result.1 _ _ c.args.input.now ran.new.input c.args.output.now ran.new.output c.args.log.now ran.new.log ran.result.0
     attached.ensures.attaches attached.ensures.keying attached.ensures.refuses
-    ran.ensures.serves ran.ensures.silent ran.ensures.logs ran.ensures.disk ran.ensures.status ran.ensures.untaken
+    ran.ensures.serves ran.ensures.logs ran.ensures.disk ran.ensures.status ran.ensures.untaken

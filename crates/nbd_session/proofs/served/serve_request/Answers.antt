@@ -11,7 +11,7 @@ returns-in-Err-clause-serves g c =
 
 pub returns-clause-serves : goal.returns-clause-serves
 returns-clause-serves g c =
-    request_served (side_of c.args.provider.now) c.fill.new.into c.in-Some.request (g.D.Disk.state c.args.provider.now.disk) (g.D.Disk.state c.serve_by_kind.new.provider.disk)
+    request_served (side_of c.args.provider.now) (g.D.Disk.wants_room c.serve_by_kind.new.provider.disk) c.fill.new.into c.in-Some.request (g.D.Disk.state c.args.provider.now.disk) (g.D.Disk.state c.serve_by_kind.new.provider.disk)
     (g.S.Source.state c.args.input.now) (g.S.Source.state c.fill.new.input) (g.S.Source.state c.serve_by_kind.new.input) (g.K.Sink.state c.args.output.now) c.serve_by_kind.result.0
     (g.K.Sink.state c.serve_by_kind.new.output) c.serve_by_kind.result.1 c.fill.auto.into (sym c.request_in.ensures ∙ c.in-Some.is) c.in_default.ensures c.serve_by_kind.ensures.serves
 

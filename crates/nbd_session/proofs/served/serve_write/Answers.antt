@@ -25,10 +25,10 @@ returns-clause-serves g c =
       few = c.requires.few;
       took = c.in_default.ensures;
       error = c.write-error.result;
-      writes = written_there (side_of p) q ys (take q.length (drop (q.offset % p.keying.sectorsize) (put_mid start (start + q.length - start) room ys))) c.write-error.result
+      writes = written_there (side_of p) (g.D.Disk.wants_room c.write-error.new.provider.disk) q ys (take q.length (drop (q.offset % p.keying.sectorsize) (put_mid start (start + q.length - start) room ys))) c.write-error.result
           (g.D.Disk.state p.disk) (g.D.Disk.state c.write-error.new.provider.disk) there c.write-error.ensures.writes;
       gives = c.answer.ensures.gives;
-      noted = c.is_error.ensures;
+      noted = c.denial_where-denied.ensures;
     })
 
 pub returns-in-Err-clause-serves : goal.returns-in-Err-clause-serves

@@ -21,5 +21,5 @@ returns-clause-writes g c =
     let zeros : ys ≡ zeros_of q = c.fill.ensures.after (λ y h. h) ∙ ap (λ (n : ℕ). replicate n 0) all in
     let there : take q.length (drop (q.offset % p.keying.sectorsize) (put_mid start (start + q.length - start) room ys)) ≡ zeros_of q =
     payload_there q.offset size p.keying.sectorsize q.length (start + q.length - start) room ys c.sector_size-size.ensures.size (c.fill.ensures.len ∙ all) (omega (arith, low, most, c.requires.room)) ∙ zeros in
-    written_there (side_of p) q (zeros_of q) (take q.length (drop (q.offset % p.keying.sectorsize) (put_mid start (start + q.length - start) room ys))) c.write_room.result
+    written_there (side_of p) (g.D.Disk.wants_room c.write_room.new.provider.disk) q (zeros_of q) (take q.length (drop (q.offset % p.keying.sectorsize) (put_mid start (start + q.length - start) room ys))) c.write_room.result
     (g.D.Disk.state p.disk) (g.D.Disk.state c.write_room.new.provider.disk) there c.write_room.ensures.writes

@@ -17,5 +17,5 @@ returns-in-Err g c =
     let disk = g.D.Disk.state in
     let source = g.S.Source.state in
     let sink = g.K.Sink.state in
-    ended_early c.export_of-export.result (side_of c.args.provider.now) c.in-Err.end (disk c.args.provider.now.disk) (disk c.args.provider.now.disk)
-    (source c.args.input.now) (source c.negotiate.new.input) (sink c.args.output.now) (sink c.negotiate.new.output) c.export_of-export.ensures.told refl c.in-Err.ensures
+    ended_early c.export_of-export.result (side_of c.args.provider.now) c.in-Err.end c.none.result (disk c.args.provider.now.disk) (disk c.args.provider.now.disk)
+    (source c.args.input.now) (source c.negotiate.new.input) (sink c.args.output.now) (sink c.negotiate.new.output) c.export_of-export.ensures.told c.none.ensures refl c.in-Err.ensures

@@ -28,9 +28,10 @@
 # use it for what must survive a power failure. With fuse2fs, rely on data only after an fsync(2) has succeeded, or
 # after some seconds without writes: the check before the next mount mends the rest.
 #
-# It needs geli-nbd, nbdfuse, fusermount3, and fuse2fs or grub-mount; -n needs nbdkit. On Debian:
+# It needs geli-nbd, pyfuse3, libnbd's python3, fusermount3, and fuse2fs or grub-mount; -n needs nbdkit. Where pyfuse3 or
+# libnbd's python3 isn't there, nbdfuse does, and writing takes several times as long. On Debian:
 #
-#   apt install libnbd-bin fuse3 fuse2fs e2fsprogs grub-common nbdkit
+#   apt install python3-pyfuse3 python3-libnbd fuse3 fuse2fs e2fsprogs grub-common nbdkit
 set -euo pipefail
 # shellcheck source=lib.sh
 . "$(dirname -- "$(readlink -f -- "${BASH_SOURCE[0]}")")/lib.sh"
@@ -71,6 +72,13 @@ tell_shortage() {
         note "note: '$1' may come to take $lacks bytes more, and its disk has room for $room: writes may be refused"
 }
 
+# Sets `bridge` to the python3 that has what nbd_bridge.py needs, which need not be the first one; to nothing if none has.
+find_bridge() {
+    for bridge in python3 /usr/bin/python3 ''; do
+        ! "${bridge:-true}" -I -c 'import nbd, pyfuse3, trio' 2>/dev/null || return 0
+    done
+}
+
 # take_over: the folder of a mount is there. It is an end that nobody asked for yet, a mount, or one whose
 # mount-provider.sh died before anything was begun.
 take_over() {
@@ -103,6 +111,7 @@ claim_folder() {
     mkdir -- "$state"
     exec {claim}<>"$state/result"
     flock "$claim"
+    fallocate -n -l 4096 -- "$state/result" 2>/dev/null || : # room for what is said in the end
     exec {top}<&-
     left() {
         exec {top}<"$mounts"
@@ -145,7 +154,9 @@ if [ -n "$ends" ]; then
     [ ! -d "$state" ] || is_own
     keeper unmount state="$state" folder="$folder" options="$options"
 fi
-need "$GELI_NBD" nbdfuse fusermount3 blkid mountpoint flock
+need "$GELI_NBD" fusermount3 blkid mountpoint flock
+find_bridge
+[ -n "$bridge" ] || need nbdfuse
 [ -z "$partition" ] || need nbdkit
 options_agree
 ! mountpoint -q -- "$folder" || fail "something is mounted on '$folder' already"
@@ -166,4 +177,5 @@ key_ready
 [[ $options = *r* ]] || tell_shortage "$1"
 # From here on the keeper removes what there is.
 keeper mount state="$state" folder="$folder" options="$options" claim="$claim" here="$PWD" name="$1" \
-    geli-nbd="$(command -v "$GELI_NBD")" image="$image" file="${files[0]}" key="${key[*]}" partition="$partition"
+    geli-nbd="$(command -v "$GELI_NBD")" image="$image" file="${files[0]}" key="${key[*]}" partition="$partition" \
+    bridge="$bridge"

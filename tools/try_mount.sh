@@ -50,8 +50,8 @@ process_of() {
         case $1:$(words_of "$process") in
             keeper:*keep_mount.py*) [ "$process" != "$keeper" ] || echo "$process" ;;
             front:*keep_mount.py*) [ "$process" = "$keeper" ] || echo "$process" ;;
-            geli:*/python3\ *) ;; # the keeper has the program's name among its words
-            device:nbdfuse\ * | server:python3\ *nbd_server.py\ * | files:fuse2fs\ * | geli:/*geli-nbd*) echo "$process" ;;
+            geli:*python3\ * | server:*nbd_bridge.py\ *) ;; # the keeper and the bridge have the words of others
+            device:nbdfuse\ * | device:*nbd_bridge.py\ * | server:python3\ *nbd_server.py\ * | files:fuse2fs\ * | geli:/*geli-nbd*) echo "$process" ;;
         esac
     done
 }
@@ -94,8 +94,9 @@ checked() {
     e2fsck -fn raw >checked.out 2>&1
 }
 is_clean() { checked "${1:-m.img}" && LC_ALL=C dumpe2fs -h raw 2>&1 | grep -q '^Filesystem state: *clean'; }
-# What a power failure would leave now: a copy of the image, while it is mounted and nobody writes.
-copied_at_rest() { sleep 1 && cp --sparse=always m.img rest.img; }
+# What a power failure would leave now: a copy of the image, while it is mounted and nobody writes. Every three seconds
+# what was written is synced.
+copied_at_rest() { sleep 5 && cp --sparse=always m.img rest.img; }
 at_rest() { copied_at_rest && checked rest.img; }
 # After deletions fuse2fs keeps some numbers in its own memory, over a plain file too: e2fsck mends them.
 mended() { checked "$1" || e2fsck -fy raw >checked.out 2>&1 || [ $? = 1 ]; }

@@ -51,7 +51,8 @@ process_of() {
             keeper:*keep_mount.py*) [ "$process" != "$keeper" ] || echo "$process" ;;
             front:*keep_mount.py*) [ "$process" = "$keeper" ] || echo "$process" ;;
             geli:*python3\ * | server:*nbd_bridge.py\ *) ;; # the keeper and the bridge have the words of others
-            device:nbdfuse\ * | device:*nbd_bridge.py\ * | server:python3\ *nbd_server.py\ * | files:fuse2fs\ * | geli:/*geli-nbd*) echo "$process" ;;
+            device:*nbd_bridge.py\ *) echo "$process" ;;
+            device:nbdfuse\ * | server:python3\ *nbd_server.py\ * | files:fuse2fs\ * | geli:/*geli-nbd*) echo "$process" ;;
         esac
     done
 }
@@ -96,7 +97,7 @@ checked() {
 is_clean() { checked "${1:-m.img}" && LC_ALL=C dumpe2fs -h raw 2>&1 | grep -q '^Filesystem state: *clean'; }
 # What a power failure would leave now: a copy of the image, while it is mounted and nobody writes. Every three seconds
 # what was written is synced.
-copied_at_rest() { sleep 5 && cp --sparse=always m.img rest.img; }
+copied_at_rest() { sleep 6 && cp --sparse=always m.img rest.img; }
 at_rest() { copied_at_rest && checked rest.img; }
 # After deletions fuse2fs keeps some numbers in its own memory, over a plain file too: e2fsck mends them.
 mended() { checked "$1" || e2fsck -fy raw >checked.out 2>&1 || [ $? = 1 ]; }
@@ -246,7 +247,7 @@ case_bridge() { # what stands between the server and the filesystem's program
     command mount -t tmpfs -o size=20M small small 2>notes || { echo "not tried: refused writes (no tmpfs)"; return; }
     "$make" -i 100 -J pass 100M small/s.img key small.backup 2>notes
     GELI_MOUNTS=$folder/mounts "$mount" -m -k key -j pass small/s.img files 2>notes
-    says "a write that is refused later is told to fsync, with its cause" python3 - <<'EOS'
+    says "a write that is refused later is told to fsync" python3 - <<'EOS'
 import errno, os, sys
 file = os.open("files/large", os.O_RDWR | os.O_CREAT)
 try:
@@ -254,7 +255,7 @@ try:
         os.write(file, os.urandom(1 << 20))
     os.fsync(file)
 except OSError as failed:
-    sys.exit(failed.errno not in (errno.EIO, errno.ENOSPC) and str(failed))
+    sys.exit(failed.errno not in (errno.EIO, errno.ENOSPC, errno.ERANGE) and str(failed))  # fuse2fs says ERANGE for EIO
 sys.exit("nothing was refused")
 EOS
     says "  and by -u" test "$(down; echo $?)" = 1

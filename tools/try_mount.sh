@@ -296,7 +296,7 @@ EOS
 }
 
 # goes_on FILE: writes a file in files/ every 20 ms, whatever becomes of the folder
-goes_on() { for _ in {1..150}; do echo plain >"files/w$RANDOM" && sleep 0.02; done 2>"$1"; }
+goes_on() { for _ in {1..150}; do echo plain >"files/w$RANDOM"; sleep 0.02; done 2>"$1"; }
 below() { unshare -m sh -c 'umount -l files 2>/dev/null; ls -A files'; } # what is in the folder below
 case_below() { # who goes on after the end of a mount writes nothing in the folder below it
     local who wrong=0 at writer
@@ -365,7 +365,7 @@ case_state() { # the disk of the state of the mounts, usually /tmp, is full
     head -c 2M /dev/zero >mounts/filler 2>notes
     says "where /tmp is full a mount ends in order" down
     rm mounts/filler
-    says "  with nothing left" nothing_left
+    says "  with nothing left" test -z "$(ls mounts; behind)"
     says "  and clean" is_clean
     says "  with its file" has one one
     up m.img
@@ -382,7 +382,7 @@ case_torn() { # an authenticated provider whose first sectors can't be read
     local size
     for size in 20M 140M; do
         rm -f t.img torn.backup
-        "$make" -a HMAC/SHA256 -i 100 -J pass $size t.img key torn.backup 2>notes
+        "$make" -a -i 100 -J pass $size t.img key torn.backup 2>notes
         up -m t.img
         echo precious >files/precious
         says "a mount of $size with authentication ends" down

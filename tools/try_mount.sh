@@ -1035,7 +1035,7 @@ case_namespace() { # another mount namespace, which has the mount too
 
 # signalled SIGNAL WHO: a mount of which the program of this role, or all programs, get a signal
 signalled() {
-    fresh && up m.img && echo a >files/a
+    fresh && { up m.img || cat notes >&3; } && echo a >files/a
     # shellcheck disable=SC2046 # they are numbers
     if [ "$2" = all ]; then kill "-$1" $(behind); else kill "-$1" "$(process_of "$2")"; fi
 }

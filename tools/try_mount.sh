@@ -380,7 +380,7 @@ case_state() { # the disk of the state of the mounts, usually /tmp, is full
 
 case_torn() { # an authenticated provider whose first sectors can't be read
     local size
-    for size in 20M 140M; do
+    for size in 20M 160M; do
         rm -f t.img torn.backup
         "$make" -a -i 100 -J pass $size t.img key torn.backup 2>notes
         up -m t.img
@@ -390,7 +390,7 @@ case_torn() { # an authenticated provider whose first sectors can't be read
         says "  and where its superblock can't be read it isn't mounted" test "$(up t.img; echo $?)" = 1
         says "  which is said" told "its first sectors can't be read"
         says "  and that nothing is to be made there" told "Don't make one over it"
-        [ $size = 140M ] || continue
+        [ $size = 160M ] || continue
         says "  and -c takes the second superblock" up -c t.img
         says "  which is said" told 'mended by the second superblock'
         says "  and its file is there" grep -q precious files/precious

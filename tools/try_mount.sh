@@ -1058,7 +1058,7 @@ case_signals() { # signals to a mount that is used
         done
     done
     for who in device server files geli; do
-        fresh && up m.img && echo a >files/a && sleep 1
+        fresh && up m.img && echo a >files/a && sleep 6 # until what the kernel keeps is written
         kill -KILL "$(process_of $who)"
         sleep 1
         says "SIGKILL to the $who is told" test "$(down; echo $?)" = 1

@@ -551,7 +551,7 @@ case_partition() { # a filesystem in a partition of the data: nbdkit stands betw
     says "  and SIGTERM to all ends it in order" nothing_left p.img
     for who in all server; do
         says "  so that nothing is mended" test "$(up -n 1 p.img; grep -c 'was mended' notes)" = 0
-        cp three "files/by-$who" && sync "files/by-$who" && sleep 1
+        cp three "files/by-$who" && sync "files/by-$who" && sleep 6
         kill -KILL $(if [ $who = all ]; then behind; else process_of server; fi)
         says "  and SIGKILL to $who is told" test "$(down; echo $?)" = 1
         says "  with nothing left" nothing_left p.img 5

@@ -10,10 +10,11 @@ The sides go by turns in one run, TURNS times (5 at least), each turn with anoth
 median of the seconds, and the least and the most of them.
 
 All keys are at hand: the provider has no passphrase, and LUKS the fewest iterations that qemu-img makes. Both have
-AES-XTS of 256 bits, sectors of 4,096 bytes here and of 512 there. nbdcopy and nbdsh connect to a socket; nbdfuse runs
-the server, and fuse2fs mounts an ext4 as mount-provider.sh makes it. It writes parts of sectors, which LUKS takes only
-behind nbdkit's filter `blocksize`. What goes in is flushed within the time, and what comes out is compared in the first
-turn. It needs nbdkit, libnbd's programs with nbdsh, qemu-img and fuse2fs.
+AES-XTS of 256 bits, sectors of 4,096 bytes here and of 512 there. nbdcopy and nbdsh connect to a socket. For files
+examples/nbd_bridge.py runs the server, or nbdfuse in the rows that say so, and fuse2fs mounts an ext4 as
+mount-provider.sh makes it. Parts of sectors LUKS takes only behind nbdkit's filter `blocksize`. What goes in is flushed
+within the time, and what comes out is compared in the first turn. It needs nbdkit, libnbd's programs with nbdsh,
+qemu-img, fuse2fs, and python3 with pyfuse3 and libnbd's module.
 """
 import contextlib
 import os
@@ -27,6 +28,7 @@ import sys
 import threading
 import time
 
+BRIDGE = pathlib.Path(__file__).resolve().parent.parent / "examples/nbd_bridge.py"
 ROOM = 122_070 * 4096  # bytes of the data of each image: 500 MB of whole sectors
 REQUESTS = 10_000
 # Files of a mount: how many, and their bytes in turn.
@@ -163,25 +165,33 @@ def at_random(work):
     return of_side
 
 
+def by_bridge(disk):
+    return [sys.executable, "-I", "-B", BRIDGE, disk]
+
+
+def by_nbdfuse(disk):
+    return ["nbdfuse", disk, "--command"]
+
+
 @contextlib.contextmanager
-def device(side):
+def device(side, by):
     """The file that is the device; in the end all is flushed."""
     disk = side.folder / "disk"
-    words = ["nbdfuse", disk, "--command", *side.streams]
+    words = [*by(disk), *side.streams]
     said = side.folder / "said"  # of requests that are refused
     with open(said, "wb") as file, subprocess.Popen(words, env=side.env, stderr=file) as server:
         until((disk / "nbd").exists)
         yield disk / "nbd"
         run("fusermount3", "-u", disk)
     if server.returncode or said.stat().st_size:
-        sys.exit(f"{side.name}: nbdfuse ended with {server.returncode}: {said.read_text()[:300]}")
+        sys.exit(f"{side.name}: the device ended with {server.returncode}: {said.read_text()[:300]}")
 
 
 @contextlib.contextmanager
-def mounted(side):
+def mounted(side, by):
     """The folder on which the ext4 is mounted; in the end all is flushed."""
     files = side.folder / "files"
-    with device(side) as nbd:
+    with device(side, by) as nbd:
         with subprocess.Popen(["fuse2fs", "-f", nbd, files, "-o", "fakeroot"], stdout=subprocess.DEVNULL,
                               stderr=subprocess.DEVNULL) as program:
             until(lambda: os.path.ismount(files))
@@ -191,12 +201,12 @@ def mounted(side):
             sys.exit(f"{side.name}: fuse2fs ended with {program.returncode}")
 
 
-def files_in(name):
+def files_in(name, by):
     def of_side(side, _):
-        with device(side) as nbd:
+        with device(side, by) as nbd:
             run(*MAKE, nbd)
         with contextlib.ExitStack() as stack:
-            files = stack.enter_context(mounted(side))
+            files = stack.enter_context(mounted(side, by))
             began = time.perf_counter()
             run("cp", "-r", side.folder / name, files / "tree")
             stack.close()
@@ -204,9 +214,9 @@ def files_in(name):
     return of_side
 
 
-def files_out(name):
+def files_out(name, by):
     def of_side(side, is_first):
-        with mounted(side) as files:
+        with mounted(side, by) as files:
             spent = timed("cp", "-r", files / "tree", side.folder / "tree")
         if is_first:
             run("diff", "-r", side.folder / "tree", side.folder / name)
@@ -235,8 +245,9 @@ def rows():
     yield f"{REQUESTS:,} reads of 4 KiB", at_random("h.pread(4096, place)")
     yield f"{REQUESTS:,} writes of 4 KiB", at_random("h.pwrite(piece, place)")
     for name in TREES:
-        yield f"{name}, in", files_in(name)
-        yield f"{name}, out", files_out(name)
+        for how, by in ("", by_bridge), (", by nbdfuse", by_nbdfuse):
+            yield f"{name}, in{how}", files_in(name, by)
+            yield f"{name}, out{how}", files_out(name, by)
 
 
 def cell(times):

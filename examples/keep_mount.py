@@ -5,9 +5,9 @@
     python3 keep_mount.py CALLED list state=FOLDER
 
 `mount` starts the keeper in a session of its own, shows what that says, and ends once the filesystem is mounted. The
-keeper starts nbdfuse with the server on its standard streams, checks the filesystem in the device, runs the
-filesystem's program, and waits for that to end, however it ends: by `unmount`, by hand, or because it died. Then it
-takes down the device, waits for the server, which ends by its connection, and writes down how it went.
+keeper starts nbd_bridge.py with the server on its standard streams, or nbdfuse in its place; checks the filesystem in
+the device, runs the filesystem's program, and waits for that to end, however it ends: by `unmount`, by hand, or because
+it died. Then it takes down the device, waits for the server, which ends by its connection, and writes down how it went.
 
 SIGTERM, SIGINT and SIGHUP to the keeper, at any moment, are an orderly unmount. They are blocked in all programs that
 it starts, so that a signal to all leaves the writing to those who write.
@@ -16,7 +16,11 @@ A mount has a folder (STATE). Its files are `result`, which the one who keeps th
 the end a status and words stand; `device` and `files`, of which the programs behind the device and those over it hold
 locks while they run; `begun`, with what is mounted, from before that; `up`, once it is; `waits`, with what hinders its
 end; `ended`, where the server says how it ended; `of`, the folder and the image; `keeper`, the number of a process;
-`private`, the folder of links to files; and the folder `disk`, where the device is.
+`private`, the folder of links to files; `below`, the mode of the folder; `lost`, once the image isn't there any more; and
+the folder `disk`, where the device is.
+
+What has died stays on the folder until `unmount`. Whoever still writes there gets an error (ENOTCONN), and doesn't go on
+in the folder below, where nothing is encrypted. For the end by a signal that folder is closed: see Below.
 """
 import collections
 import contextlib
@@ -28,16 +32,18 @@ import select
 import shlex
 import shutil
 import signal
+import stat
 import struct
 import subprocess
 import sys
+import syslog
 import threading
 import time
 from pathlib import Path
 
 sys.path.insert(0, os.path.dirname(os.path.abspath(__file__)))  # which python3 -I leaves out
-from lib import (REFUSED, Failed, Refusals, called, close_others, descriptors_of, files_of, is_new, is_zeros, name_of,
-                 note, say)
+from lib import (REFUSED, Failed, Identity, Refusals, called, close_others, descriptors_of, files_of, holder_of, is_new,
+                 is_zeros, name_of, note, say)
 
 SIGNALS = {signal.SIGTERM, signal.SIGINT, signal.SIGHUP}
 BLOCKED = SIGNALS | {signal.SIGCHLD}
@@ -46,22 +52,29 @@ EXT = ("ext2", "ext3", "ext4")
 # regular file for zeros. Blocks are as large as the sectors that make-provider.sh makes.
 MAKE = ("mke2fs", "-q", "-F", "-t", "ext4", "-b", "4096", "-E", "nodiscard")
 FOR_FUSE2FS = ("-O", "^extent,^64bit,^metadata_csum")
-PACKAGES = {"fuse2fs": "fuse2fs", "grub-mount": "grub-common"}
+PACKAGES = {"fuse2fs": "fuse2fs", "grub-mount": "grub-common", "nbdfuse": "libnbd-bin"}
 REFUSAL = re.compile(": (write|write-zeroes|flush): command failed: ")  # libnbd says it of what a server refused
+SLOW = "note: pyfuse3 and libnbd's python3 aren't there (Debian: python3-pyfuse3, python3-libnbd): writing takes longer"
 NEEDS_JOURNAL = "Journal needs recovery"  # fuse2fs says it if it may not write
 JOURNAL = "Writing to the journal is not supported."  # fuse2fs says it of each ext4 that has one
 AT_REST = 3.0  # seconds after which what was written is synced, though nobody asks
+OWN_REQUESTS = 56 + 64  # bytes that fuse2fs reads of an fsync of a file, and of its close
+SOME = 1000  # names of a filesystem that are looked at for a file
+OWN_FILE = ".geli-sync"  # in lost+found
+SECOND_SUPERBLOCK = {1024: 8193, 2048: 16384, 4096: 32768}  # of an ext: the bytes of its blocks, and which block
 PATIENCE = 5.0  # seconds in which a mount that is in use is waited for, once its end is asked for
 GRACE = 2.0  # seconds in which a device that nobody needs any more may end by itself
 CONNECTIONS = "/sys/fs/fuse/connections"
 
 
+HERE = os.path.dirname(os.path.abspath(__file__))
+
+
 def server(words, ended):
     """The server of the image: it speaks NBD on its standard streams, ends with its connection, and says in the file
     `ended` how that went."""
-    here = os.path.dirname(os.path.abspath(__file__))
     parts = [f"partition={words['partition']}"] if words["partition"] else []
-    return ["env", "-C", words["here"], "python3", "-I", "-B", f"{here}/nbd_server.py", f"ended={ended}", *parts, "--",
+    return ["env", "-C", words["here"], "python3", "-I", "-B", f"{HERE}/nbd_server.py", f"ended={ended}", *parts, "--",
             words["geli-nbd"], *["-r"] * ("r" in words["options"]), *words["key"].split(" "), words["image"]]
 
 
@@ -153,12 +166,15 @@ def loops_over(file):
 
 
 class Superblock:
-    """What is asked of the superblock of an ext2, ext3 or ext4 (fields of struct ext2_super_block)."""
+    """What is asked of a superblock of an ext2, ext3 or ext4 (fields of struct ext2_super_block)."""
 
-    def __init__(self, device):
+    def __init__(self, device, at=1024):
         with open(device, "rb") as file:
-            file.seek(1024)
+            file.seek(at)
             self.bytes = file.read(1024)
+
+    def is_ext(self):
+        return self.bytes[0x38:0x3A] == b"\x53\xef"
 
     def is_clean(self):
         return bool(struct.unpack_from("<H", self.bytes, 0x3A)[0] & 1)
@@ -178,7 +194,7 @@ class State:
         self.begun, self.up, self.waits = self.path / "begun", self.path / "up", self.path / "waits"
         self.device, self.files = self.path / "device", self.path / "files"
         self.keeper, self.private = self.path / "keeper", self.path / "private"
-        self.of = self.path / "of"
+        self.of, self.below, self.lost = self.path / "of", self.path / "below", self.path / "lost"
 
     def text(self, file):
         """What a file of it has; nothing if it isn't there."""
@@ -289,9 +305,11 @@ class Program:
 
 
 class Device(Program):
-    """nbdfuse, which says a line of each request that the server refused: who uses a filesystem need not hear of it."""
+    """The program of the device. It says a line of each request that the server refused, of which who uses a filesystem
+    need not hear."""
 
     def __init__(self, command, lock, files, descriptors):
+        self.name = "nbdfuse" if command[0] == "nbdfuse" else "nbd_bridge.py"
         self.refusals = Refusals(files)
         super().__init__(command, lock, descriptors, start_new_session=True)
 
@@ -300,6 +318,106 @@ class Device(Program):
             self.lines.append(line)
             if REFUSAL.search(line):
                 self.refusals.add()
+
+
+class Below:
+    """The folder below a mount. Once that is there nobody may write to the folder, until -u or an unmount by hand: a
+    program that goes on after a signal has ended the mount would leave plain text there. Root isn't held by modes."""
+
+    def __init__(self, folder):
+        self.file = os.open(folder, os.O_RDONLY | os.O_DIRECTORY)
+        self.mode = stat.S_IMODE(os.fstat(self.file).st_mode)
+        if os.geteuid():
+            self.mode |= stat.S_IWUSR  # without it nothing can be mounted there: a signal has ended the last mount
+            self.reopen()
+
+    def close(self):
+        if os.geteuid():
+            self.change(self.mode & ~0o222)
+
+    def reopen(self):
+        self.change(self.mode)
+
+    def change(self, mode):
+        with contextlib.suppress(OSError):  # it may be another user's
+            os.fchmod(self.file, mode)
+
+
+def open_below(folder, mode):
+    """Lets its owner write to a folder again that was below a mount; whether it was closed."""
+    with contextlib.suppress(OSError):
+        state = os.stat(folder)
+        if state.st_uid == os.geteuid() != 0 and not state.st_mode & 0o222:
+            os.chmod(folder, mode or stat.S_IMODE(state.st_mode) | stat.S_IWUSR)
+            return True
+    return False
+
+
+class Rest:
+    """Writes what a filesystem still holds back, some seconds after it was used.
+
+    fuse2fs does that at an fsync(2) of a file that is open for writing, and at nothing else. So one is opened, to which
+    nothing is written. Whether the filesystem was used since then is seen by the bytes that fuse2fs has read: each
+    request is some. The kernel's ext4 writes by itself, and is looked at by the writes of its loop device."""
+
+    def __init__(self, folder, device, program):
+        self.folder, self.device = folder, device
+        self.process = program and program.process.pid
+        self.file = None  # of the filesystem
+        self.seen = self.used()  # by which its use is seen; None if it must be synced, whatever that is
+
+    def look(self):
+        used = self.used()
+        if used == self.seen:
+            return
+        self.seen = None
+        try:
+            self.seen = self.write_back() if self.process else used
+        finally:
+            with open(self.device, "rb") as device:
+                os.fsync(device)
+
+    def used(self):
+        """What changes by each use of the filesystem."""
+        if self.process:
+            counts = Path(f"/proc/{self.process}/io").read_text(encoding="ascii")
+            return int(re.search(r"^rchar: (\d+)$", counts, re.MULTILINE)[1])
+        return [Path(f"/sys/block/{Path(loop).name}/stat").read_text(encoding="ascii").split()[4]
+                for loop in loops_over(self.device)]
+
+    def write_back(self):
+        """Lets fuse2fs write; what it has read once that is done, if nobody else has asked it for anything meanwhile."""
+        file = self.opened()
+        try:
+            used = self.used()
+            os.fsync(file)
+        finally:
+            os.close(file)
+        return used + OWN_REQUESTS
+
+    def opened(self):
+        """A file of the filesystem, open for writing. Where there is none, one is made, which stays."""
+        how = os.O_WRONLY | os.O_NOFOLLOW | os.O_NONBLOCK
+        with contextlib.suppress(OSError):
+            if not self.file or not os.path.isfile(self.file):
+                self.file = self.found()
+            if self.file:
+                return os.open(self.file, how)
+        place = os.path.join(self.folder, "lost+found")
+        self.file = os.path.join(place if os.path.isdir(place) else self.folder, OWN_FILE)
+        return os.open(self.file, how | os.O_CREAT, 0o600)
+
+    def found(self):
+        """A regular file among the first names of the filesystem; None if there is none."""
+        left = SOME
+        for at, folders, names in os.walk(self.folder):
+            for name in names[:left]:
+                if stat.S_ISREG(os.lstat(os.path.join(at, name)).st_mode):
+                    return os.path.join(at, name)
+            left -= len(names) + len(folders)
+            if left <= 0:
+                return None
+        return None
 
 
 class Keeper:
@@ -313,7 +431,8 @@ class Keeper:
         self.kind, self.number = "", None
         self.device = self.program = None
         self.secrets = descriptors_of(words.get("key", ""))
-        self.files = []  # that the image lies in
+        self.files, self.were = [], []  # that the image lies in, and what they were
+        self.below = self.rest = None
         self.ends = self.problem = ""
 
     def run(self):
@@ -362,13 +481,15 @@ class Keeper:
         return status, program.said().replace(str(self.state.nbd), self.words["name"])
 
     def start_device(self):
-        """Starts nbdfuse over the server, and waits for the file that is the device."""
+        """Starts the device over the server, and waits for its file."""
         names = files_of(self.words["image"])
         self.files = [os.path.realpath(os.path.join(self.words["here"], name)) for name in names]
+        self.were = list(map(Identity, self.files))
+        if self.reads_only:
+            self.tell_writers()
         self.state.disk.mkdir()
         self.say("step", "opening the provider: its key is derived")
-        command = ["nbdfuse", *["-r"] * self.reads_only, self.state.disk, "--command",
-                   *server(self.words, self.state.ended)]
+        command = [*self.bridge(), *server(self.words, self.state.ended)]
         self.device = Device(command, self.state.device, self.files, self.secrets)
         while not os.path.exists(self.state.nbd):
             self.pause(0.05)
@@ -379,14 +500,32 @@ class Keeper:
                 while is_used(self.state.device):  # the server may still write down how it ended
                     time.sleep(0.02)
                 said = self.state.text(self.state.ended)
-                raise Failed(said if said not in ("", "ok") else f"nbdfuse: {self.device.said()}")
+                raise Failed(said if said not in ("", "ok") else f"{self.device.name}: {self.device.said()}")
         self.forget_key()
+
+    def tell_writers(self):
+        """Says who else has the image: -r takes no lock, and nobody keeps it from an image that is written to."""
+        for file in self.files:
+            writer = holder_of(os.stat(file))
+            if writer:
+                self.say("note", f"note: process {writer} ({name_of(writer)}) may write to '{self.words['name']}' now:"
+                                 " what is read may be half old and half new, or damaged")
+
+    def bridge(self):
+        """What hands the device's requests on to a server, whose words follow."""
+        if self.words["bridge"]:
+            return [self.words["bridge"], "-I", "-B", f"{HERE}/nbd_bridge.py", self.state.disk]
+        need("nbdfuse")
+        self.say("note", SLOW)
+        return ["nbdfuse", *["-r"] * self.reads_only, self.state.disk, "--command"]
 
     def prepare(self):
         """Finds, makes, checks and grows the filesystem."""
         self.kind = "" if "M" in self.options else self.found("TYPE")
         if not self.kind and set("mM") & set(self.options):
             self.make()
+        if not self.kind and "c" in self.options and not self.is_readable():
+            self.take_second_superblock()
         if not self.kind:
             self.must_be_readable()
             self.must_have_no_table()
@@ -403,14 +542,38 @@ class Keeper:
             raise Failed(said)
         return said
 
-    def must_be_readable(self):
-        """The beginning of the data, where a filesystem is known by, can be read."""
+    def is_readable(self, first=0, size=65536):
+        """Whether the bytes of the data can be read: by default the beginning, which a filesystem is known by."""
         try:
-            with open(self.state.nbd, "rb") as device:
-                device.read(65536)
+            with open(self.state.nbd, "rb", buffering=0) as device:
+                device.seek(first)
+                return len(device.read(size)) == size or first + size > device.seek(0, os.SEEK_END)
         except OSError:
+            return False
+
+    def must_be_readable(self):
+        if not self.is_readable():
             raise Failed("no filesystem is known in it, and its first sectors can't be read: they were never written,"
-                         f" or are damaged ({called('after-a-power-failure')} says which)") from None
+                         f" or are damaged ({called('after-a-power-failure')} says which). Don't make one over it: copy"
+                         " it to another disk first, and then give -c, which takes an ext4's second superblock, if it"
+                         " has one (from 128 MiB on)")
+
+    def take_second_superblock(self):
+        """Mends an ext whose first sectors can't be read: zeros are put there, and e2fsck(8) writes them anew."""
+        for size, block in SECOND_SUPERBLOCK.items():
+            if not self.is_readable(size * block, 1024) or not Superblock(self.state.nbd, size * block).is_ext():
+                continue
+            with open(self.state.nbd, "r+b", buffering=0) as device:
+                for at in range(0, 65536, 4096):
+                    if not self.is_readable(at, 4096):
+                        device.seek(at)
+                        device.write(bytes(4096))
+            status, said = self.work("checking the filesystem", "e2fsck", "-fy", "-b", block, "-B", size, self.state.nbd)
+            if not 0 <= status < 4:
+                raise Failed(f"its first sectors couldn't be read, and the second superblock didn't help: {said}")
+            self.say("note", "its first sectors couldn't be read: it was mended by the second superblock")
+            self.kind = self.found("TYPE")
+            return
 
     def must_have_no_table(self):
         """It has no partitions, in which the filesystem would be."""
@@ -436,9 +599,13 @@ class Keeper:
         status, said = self.e2fsck()
         if not 0 <= status < 4:
             raise Failed(f"the filesystem in it is damaged, and wasn't mounted: {said}\n"
-                         f"copy '{self.words['name']}' to another disk, and then give -c, which repairs it")
+                         f"copy '{self.words['name']}' to another disk, and then give -c, which repairs it; after a"
+                         " power failure that keeps the files that were fsynced")
         if status:
             self.say("note", f"the filesystem was mended: {said}")
+        if "journal has been regenerated" in said:
+            self.say("note", "its journal couldn't be read and was dropped: what was written before the crash, flushed"
+                             " or not, may be missing")
         if "g" in self.options:
             status, said = self.work("growing the filesystem", "resize2fs", self.state.nbd)
             if status:
@@ -465,11 +632,15 @@ class Keeper:
         self.say("step", "mounting it")
         self.reads_only = self.reads_only or (self.kind not in EXT and "K" not in self.options)
         self.state.put(self.state.begun, f"{self.kind} {'r' if self.reads_only else 'w'}{'K' * ('K' in self.options)}")
+        self.below = Below(self.folder)
         if "K" in self.options:
             self.mount_by_kernel()
         else:
             self.mount_by_program()
         self.number = mount_of(self.folder)
+        self.state.put(self.state.below, f"{self.below.mode:o}")
+        self.below.close()
+        self.rest = Rest(self.folder, self.state.nbd, self.program)
 
     def mount_by_kernel(self):
         how = "loop,nosuid,nodev" + ",ro" * self.reads_only
@@ -501,17 +672,24 @@ class Keeper:
         self.state.put(self.state.up, self.number)
         self.say("up", f"its {self.kind} is mounted on {self.folder}" + ", to be read alone" * self.reads_only)
 
-    def sync_at_rest(self):
-        """Syncs the image again and again, if it was written to: fuse2fs asks for that by fsync(2) alone."""
-        synced = None
+    def look_at_rest(self):
+        """Has what was written synced again and again, and looks whether the image is still there."""
         while True:
             time.sleep(AT_REST)
             with contextlib.suppress(OSError):
-                written = [os.stat(file).st_mtime_ns for file in self.files]
-                if written != synced:
-                    with open(self.state.nbd, "rb") as device:
-                        os.fsync(device)
-                    synced = written
+                self.rest.look()
+            with contextlib.suppress(OSError):
+                self.look_at_image()
+
+    def look_at_image(self):
+        """Notes once it isn't there any more: what is written from then on is lost. Nobody is there to be told, so it
+        is said in the system's log, and by -l."""
+        became = next(filter(None, (was.became() for was in self.were)), "")
+        if became == self.state.text(self.state.lost):
+            return
+        self.state.put(self.state.lost, became)
+        if became:
+            syslog.syslog(syslog.LOG_WARNING, f"{self.words['called']}: {self.folder}: {became}")
 
     def is_up(self):
         return self.program.runs() if self.program else bool(loops_over(self.state.nbd))
@@ -520,13 +698,14 @@ class Keeper:
         """Waits until the filesystem's program has ended; a signal unmounts it."""
         asked_at = None
         if not self.reads_only:
-            threading.Thread(target=self.sync_at_rest, daemon=True).start()
+            threading.Thread(target=self.look_at_rest, daemon=True).start()
         while self.is_up():
             asks = self.ends and mount_of(self.folder) == self.number
             self.pause(0.1 if asks else None if self.program else 1)
-            if not self.ends and not self.device.runs():
-                self.problem = "nbdfuse has died: what was written since the last flush may be lost"
-                self.ends = "the end of nbdfuse"
+            if not self.problem and not self.device.runs():
+                self.problem = f"{self.device.name} has died: what was written since the last flush may be lost"
+                if self.program:
+                    self.program.process.kill()  # who uses the folder gets an error from now on
             if self.ends and mount_of(self.folder) == self.number:
                 asked_at = asked_at or time.monotonic()
                 # In use for long, it goes from the folder at once, and ends with the last who is in it.
@@ -544,6 +723,8 @@ class Keeper:
         self.unmount_device()
         if not self.number:
             return
+        if self.below and not self.stays() and not self.ends:
+            self.below.reopen()
         said = self.state.text(self.state.ended)
         if said.startswith(REFUSED) and self.device and self.device.refusals.count:
             said = str(self.device.refusals)
@@ -554,7 +735,19 @@ class Keeper:
         elif said != "ok":
             self.problem = f"what was written may be lost: {said}" + f"; {self.problem}" * bool(self.problem)
         elif not is_clean:
-            self.problem = self.problem or "the filesystem's program has died: what was written last may be lost"
+            self.problem = self.problem or self.why_unclean()
+        elif self.stays():
+            self.problem = "the mount was ended by something else"
+
+    def why_unclean(self):
+        """Why the filesystem isn't clean, as far as that can be seen."""
+        status = self.program.process.poll() if self.program else None
+        died = f" was ended by {signal.Signals(-status).name}" if status and status < 0 else "'s end wasn't orderly"
+        return f"the filesystem's program{died}: what was written last may be lost"
+
+    def stays(self):
+        """Whether the mount of a program that has ended is still on the folder, where it stays until -u."""
+        return bool(self.program and not self.program.runs() and self.number and mount_of(self.folder) == self.number)
 
     def is_clean(self):
         """Whether the filesystem says of itself that it was unmounted in order."""
@@ -567,18 +760,22 @@ class Keeper:
 
     def unmount_filesystem(self):
         """Waits for the end of all programs over the device, and of the kernel's loop. One that mounts only now, since
-        the keeper was killed, is unmounted, and so is what a program has left that was killed."""
-        while (is_used(self.state.files) or (self.number and mount_of(self.folder) == self.number)
+        the keeper was killed, is unmounted, and so is what is left of one whose end nobody has seen."""
+        while (is_used(self.state.files) or self.must_go()
                or ("K" in self.options and loops_over(self.state.nbd))):
             self.number = self.number or mount_of(self.folder)
-            if self.number and mount_of(self.folder) == self.number:
+            if self.must_go():
                 self.hindered(self.unmount("-z"))
             time.sleep(0.1)
 
+    def must_go(self):
+        return self.number and mount_of(self.folder) == self.number and not self.stays()
+
     def hindered(self, said):
         """Notes what a program said that couldn't unmount, for whom waits meanwhile."""
-        if said:
-            self.state.put(self.state.waits, said)
+        with contextlib.suppress(OSError):  # the disk of it may be full
+            if said:
+                self.state.put(self.state.waits, said)
 
     def unmount_device(self):
         """Unmounts the device, also one that comes only now, and waits for its server. If another mount namespace
@@ -718,17 +915,27 @@ def ask(state, folder, forced):
         with contextlib.suppress(OSError, ValueError):
             os.kill(int(state.text(state.keeper)), signal.SIGTERM)
         return
-    until = time.monotonic() + PATIENCE  # somebody may just look at it, and be in no list of users
-    while (said := unmount_folder(folder)) and mount_of(folder):
-        users = [number for number in processes() if uses(number, folder)]
-        if users or time.monotonic() > until:
-            raise Failed(f"'{folder}' stays mounted: {said}" + f"\nit is in use by {named(users)}" * bool(users) +
-                         "\nleave it, and give this again")
-        time.sleep(0.1)
+    leave(state, folder)
     if forced and not os.path.ismount(CONNECTIONS):
         note(f"-f needs the kernel's list of mounts: mount -t fusectl fusectl {CONNECTIONS}")
     if forced:
         abort(number)
+
+
+def leave(state, folder):
+    """Unmounts the folder of a mount, unless somebody uses it. The keeper does for a moment, while it syncs."""
+    keeper, began, is_told = state.text(state.keeper), time.monotonic(), False
+    while (said := unmount_folder(folder)) and mount_of(folder):
+        users = [number for number in processes() if uses(number, folder)]
+        others = [number for number in users if str(number) != keeper]
+        spent = time.monotonic() - began  # somebody may just look at it, and be in no list of users
+        if others or (spent > PATIENCE and not users):
+            raise Failed(f"'{folder}' stays mounted: {said}" + f"\nit is in use by {named(others)}" * bool(others) +
+                         "\nleave it, and give this again")
+        if spent > 3 and not is_told:
+            is_told = True
+            note(f"{folder}: waiting for the disk")
+        time.sleep(0.1)
 
 
 def unmount_folder(folder):
@@ -783,6 +990,9 @@ def unmount(words):
         result = open(state.result, "r+", errors="surrogateescape")
     except FileNotFoundError:
         state.remove_rest()
+        if open_below(folder, 0):
+            note(f"{folder}: a signal has ended its mount; now it can be written to again")
+            return 0
         raise Failed(f"nothing was mounted on '{folder}' by this script") from None
     with result:
         if is_held(result):
@@ -792,6 +1002,9 @@ def unmount(words):
         if not status and os.path.exists(state.device):
             text = recover(state, folder)
             status = "1" if text else "0"
+        if mount_of(folder) and mount_of(folder) == state.text(state.up):
+            unmount_by("fusermount3", "-uz", folder)  # what has died
+        open_below(folder, int(state.text(state.below) or "0", 8))
         if os.fstat(result.fileno()).st_nlink:
             state.remove()
     if status not in ("", "0"):
@@ -810,6 +1023,8 @@ def show_mounts(words):
             kind, _, options = state.text(state.begun).partition(" ")
             if not is_held(result):
                 how, status = f"went wrong: give -u {shlex.quote(folder)}", 1
+            elif state.text(state.lost):
+                how, status = f"goes wrong: {state.text(state.lost)}", 1
             elif os.path.exists(state.up):
                 how = kind + ", read-only" * ("r" in options) + ", by the kernel" * ("K" in options)
             else:

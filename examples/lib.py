@@ -157,7 +157,7 @@ def seen(path, own=None, is_ours=False):
         return "its file system is read-only"
     if not os.access(path, os.W_OK):
         return "it can't be written: look at its permissions"
-    if stat.S_ISREG(state.st_mode) and disk.f_bavail * disk.f_frsize < 1 << 20:
+    if stat.S_ISREG(state.st_mode) and disk.f_blocks and disk.f_bavail * disk.f_frsize < 1 << 20:
         return "its file system is full"
     return None
 

@@ -16,21 +16,31 @@
 # It stays mounted when the terminal is closed. -u unmounts it, and exits with 0 only if all that was written meanwhile
 # is in the provider and flushed, and no write was refused. umount(8) unmounts it too, without that exit status. If
 # another mount namespace has the mount too, -u waits for it; with -f it ends it there. The state of the mounts is kept
-# in /tmp/geli-mounts-UID (GELI_MOUNTS names another folder). -l lists them, and those that went wrong and for which -u
-# wasn't given yet; if there are such, with status 1.
+# in /tmp/geli-mounts-UID (GELI_MOUNTS names another folder). -l lists them, and those that go wrong, as when the image
+# was removed or replaced, or went wrong and for which -u wasn't given yet; if there are such, with status 1.
 #
-# fuse2fs 1.47 has its limits: `sync` does nothing there, and on a full disk cp may exit with 0, but -u then with 1. It
-# loses blocks of files with extents whose space was allocated ahead, so -m makes an ext4 without extents; its largest
-# file has 4,402,345,721,856 bytes. A file that is deleted while it is open stays as .fuse_hidden..., and deleting frees
-# no space of the image's disk.
+# If a program of the mount dies, each access to the folder is an error until -u, so that nobody goes on writing plain
+# text to the folder below. After an end by a signal, such as a logout's, only root can write there until -u or the next
+# mount.
 #
-# -K, as root, mounts by the kernel and a loop device instead. Its ext4 has a journal, and `sync` reaches the image, so
-# use it for what must survive a power failure. With fuse2fs, rely on data only after an fsync(2) has succeeded, or
-# after some seconds without writes: the check before the next mount mends the rest.
+# What was written is safe from a power failure once an fsync(2) of a file that is open for writing has succeeded, or
+# some seconds later: every three seconds all that was done is written and synced (for that an empty
+# lost+found/.geli-sync is made where there is no file at all). At once fuse2fs does nothing for an fsync of a folder,
+# or of a file that is open for reading, nor for `sync`, `sync FILE` and `sync -f`. So a database of sqlite needs
+# `pragma journal_mode=wal` or truncate, or -K. The check before the next mount mends the rest; if it refuses, -c does,
+# and keeps what was fsynced.
 #
-# It needs geli-nbd, nbdfuse, fusermount3, and fuse2fs or grub-mount; -n needs nbdkit. On Debian:
+# -K, as root, mounts by the kernel and a loop device instead. Its ext4 has a journal, and keeps each fsync and `sync`.
 #
-#   apt install libnbd-bin fuse3 fuse2fs e2fsprogs grub-common nbdkit
+# fuse2fs 1.47 has its limits: on a full disk cp may exit with 0, but -u then with 1. It loses blocks of files with
+# extents whose space was allocated ahead, so -m makes an ext4 without extents; its largest file has 4,402,345,721,856
+# bytes. A file that is deleted while it is open stays as .fuse_hidden..., and deleting frees no space of the image's
+# disk.
+#
+# It needs geli-nbd, python3 with pyfuse3 and libnbd's module, fusermount3, and fuse2fs or grub-mount; -n needs nbdkit.
+# Without those modules nbdfuse does, and writing takes some six times as long. On Debian:
+#
+#   apt install python3-pyfuse3 python3-libnbd fuse3 fuse2fs e2fsprogs grub-common nbdkit
 set -euo pipefail
 # shellcheck source=lib.sh
 . "$(dirname -- "$(readlink -f -- "${BASH_SOURCE[0]}")")/lib.sh"
@@ -71,6 +81,13 @@ tell_shortage() {
         note "note: '$1' may come to take $lacks bytes more, and its disk has room for $room: writes may be refused"
 }
 
+# Sets `bridge` to a python3 that has what nbd_bridge.py needs; to nothing if none has.
+find_bridge() {
+    for bridge in python3 /usr/bin/python3 ''; do
+        ! "${bridge:-true}" -I -c 'import nbd, pyfuse3, trio' 2>/dev/null || return 0
+    done
+}
+
 # take_over: the folder of a mount is there. It is an end that nobody asked for yet, a mount, or one whose
 # mount-provider.sh died before anything was begun.
 take_over() {
@@ -103,6 +120,7 @@ claim_folder() {
     mkdir -- "$state"
     exec {claim}<>"$state/result"
     flock "$claim"
+    fallocate -n -l 4096 -- "$state/result" 2>/dev/null || : # room for what is said in the end
     exec {top}<&-
     left() {
         exec {top}<"$mounts"
@@ -145,7 +163,9 @@ if [ -n "$ends" ]; then
     [ ! -d "$state" ] || is_own
     keeper unmount state="$state" folder="$folder" options="$options"
 fi
-need "$GELI_NBD" nbdfuse fusermount3 blkid mountpoint flock
+need "$GELI_NBD" fusermount3 blkid mountpoint flock
+find_bridge
+[ -n "$bridge" ] || need nbdfuse
 [ -z "$partition" ] || need nbdkit
 options_agree
 ! mountpoint -q -- "$folder" || fail "something is mounted on '$folder' already"
@@ -166,4 +186,5 @@ key_ready
 [[ $options = *r* ]] || tell_shortage "$1"
 # From here on the keeper removes what there is.
 keeper mount state="$state" folder="$folder" options="$options" claim="$claim" here="$PWD" name="$1" \
-    geli-nbd="$(command -v "$GELI_NBD")" image="$image" file="${files[0]}" key="${key[*]}" partition="$partition"
+    geli-nbd="$(command -v "$GELI_NBD")" image="$image" file="${files[0]}" key="${key[*]}" partition="$partition" \
+    bridge="$bridge"

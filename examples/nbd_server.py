@@ -37,6 +37,7 @@ SIGNALS = {signal.SIGTERM, signal.SIGINT, signal.SIGHUP}
 CONNECTED = "03"  # of a row of /proc/net/unix
 EXPORT_NAME = 1  # the option of NBD that asks for the data
 LOOK = 0.5  # seconds after which it is looked again whether something was refused
+ROOM = 4096  # bytes of the file that says how it ended
 AHEAD = 1 << 26  # bytes that the log may have that weren't looked at yet
 REFUSAL = re.compile(rb"\.\.\.(?:Write|Zero|Flush) id=\d+ return=-1 ")  # of a line of the log
 STATUSES = {
@@ -58,6 +59,20 @@ def how_it_ended(status, said, refusals):
     if status == 1:
         return str(refusals)
     return STATUSES.get(status, said or f"geli-nbd ended with status {status}")
+
+
+def reserve(file):
+    """Makes a file whose words are written in the end, so that there is room for them then."""
+    Path(file).unlink(missing_ok=True)
+    with open(file, "x", encoding="ascii") as blanks:  # no link of another's
+        blanks.write(" " * ROOM)
+
+
+def write_over(file, text):
+    """Writes the words of a file for which there is room."""
+    with open(file, "r+", errors="surrogateescape") as words:
+        words.write((text + "\n")[:ROOM])
+        words.truncate()
 
 
 def put(file, text):
@@ -204,7 +219,7 @@ class Server:
         text = how_it_ended(self.geli.wait(), said, self.refusals)
         if text == "ok":
             text = next(filter(None, (was.became() for was in self.were)), "ok")
-        put(self.words["ended"], text)
+        write_over(self.words["ended"], text)
         return text
 
 
@@ -313,6 +328,7 @@ def main(*words):
     at = words.index("--")
     server = Server(dict(word.split("=", 1) for word in words[:at]), list(words[at + 1:]))
     try:
+        reserve(server.words["ended"])
         return serve_socket(server) if "socket" in server.words else serve_streams(server)
     except (Failed, OSError) as failed:
         note(f"nbd_server.py: {failed}" if not isinstance(failed, Failed) else str(failed))

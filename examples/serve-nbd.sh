@@ -15,17 +15,24 @@
 #   nbdcopy disk.img "$URI"; nbdcopy "$URI" disk.img          a whole copy in, or out
 #   nbdfuse FOLDER "$URI" & mke2fs -t ext4 FOLDER/nbd         the data as a plain file, for any program
 #   fuse2fs FOLDER/nbd DIR -o fakeroot                        its ext4 mounted, without being root
-#   qemu-system-x86_64 -drive file="$URI",format=raw          a disk of a virtual machine
+#   qemu-system-x86_64 -drive id=d,if=none,file="$URI",format=raw,cache=none \
+#       -device virtio-blk-pci,drive=d,werror=stop,rerror=stop,logical_block_size=4096,physical_block_size=4096
 #   nbd-client -unix SOCKET /dev/nbd0 && mount /dev/nbd0 DIR  a disk of Linux (root, kernel module nbd)
+#
+# With werror=stop a virtual machine waits while the image's disk is full, and goes on by `cont` of its monitor;
+# otherwise it may get an I/O error, which damages its filesystem. It is told sectors of 512 bytes if nothing else is
+# said, and each write of less than a sector here is a read too. fstrim(8) in it says that space was freed, and none is:
+# geli-nbd has no trimming.
 #
 # If the provider is in a partition of a whole disk image, IMAGE can be a loop device of that partition:
 #
 #   losetup --find --show --offset BYTES --sizelimit BYTES disk.img
 #
 # A client's write is in the image once it is acknowledged, and safe from a power failure once the client has flushed,
-# as it does when it unmounts; no `sync` reaches fuse2fs 1.47. After a crash see after-a-power-failure.sh, and check the
-# filesystem (e2fsck). Reading a sector of an authenticated provider that was never written is an I/O error: make such
-# a provider by make-provider.sh -a.
+# as it does when it unmounts; no `sync` reaches fuse2fs 1.47. IMAGE may be a file on another machine; what is below it
+# must not connect anew by itself (CAVEATS of geli-nbd(8)). After a crash see after-a-power-failure.sh, and check the
+# filesystem (e2fsck). Reading a sector of an authenticated provider that was never written is an I/O error: make such a
+# provider by make-provider.sh -a.
 set -euo pipefail
 # shellcheck source=lib.sh
 . "$(dirname -- "$(readlink -f -- "${BASH_SOURCE[0]}")")/lib.sh"

@@ -50,7 +50,8 @@ process_of() {
         case $1:$(words_of "$process") in
             keeper:*keep_mount.py*) [ "$process" != "$keeper" ] || echo "$process" ;;
             front:*keep_mount.py*) [ "$process" = "$keeper" ] || echo "$process" ;;
-            geli:*/python3\ *) ;; # the keeper has the program's name among its words
+            geli:*python3\ * | server:*nbd_bridge.py\ *) ;; # the keeper and the bridge have the words of others
+            device:*nbd_bridge.py\ *) echo "$process" ;;
             device:nbdfuse\ * | server:python3\ *nbd_server.py\ * | files:fuse2fs\ * | geli:/*geli-nbd*) echo "$process" ;;
         esac
     done
@@ -94,8 +95,9 @@ checked() {
     e2fsck -fn raw >checked.out 2>&1
 }
 is_clean() { checked "${1:-m.img}" && LC_ALL=C dumpe2fs -h raw 2>&1 | grep -q '^Filesystem state: *clean'; }
-# What a power failure would leave now: a copy of the image, while it is mounted and nobody writes.
-copied_at_rest() { sleep 1 && cp --sparse=always m.img rest.img; }
+# What a power failure would leave now: a copy of the image, while it is mounted and nobody writes. Every three seconds
+# what was written is synced.
+copied_at_rest() { sleep 6 && cp --sparse=always m.img rest.img; }
 at_rest() { copied_at_rest && checked rest.img; }
 # After deletions fuse2fs keeps some numbers in its own memory, over a plain file too: e2fsck mends them.
 mended() { checked "$1" || e2fsck -fy raw >checked.out 2>&1 || [ $? = 1 ]; }
@@ -191,6 +193,214 @@ case_rest() { # at rest nothing of a client waits in memory, so that a power fai
     says "  and ends" down
 }
 
+is_in() { debugfs -R "stat /$1" raw 2>/dev/null | grep -q '^Inode:'; }
+case_removed() { # what was removed last is gone at rest, though fuse2fs holds that back
+    fresh
+    up m.img
+    sleep 4
+    says "where nothing was done nothing is made" test ! -e files/lost+found/.geli-sync
+    echo one >files/one && sync files/one && rm files/one
+    copied_at_rest
+    says "a file that was removed is gone at rest" eval 'mended rest.img && ! is_in one'
+    python3 -c 'import sqlite3
+base = sqlite3.connect("files/base", isolation_level=None)
+base.execute("create table t (a)"), base.execute("insert into t values (1)")'
+    copied_at_rest && mended rest.img
+    says "  and so is the journal of a commit" eval 'is_in base && ! is_in base-journal'
+    rm files/base files/hello
+    copied_at_rest
+    says "  and the last file of all" eval 'mended rest.img && ! is_in hello'
+    says "  by a file that is made in lost+found" is_in lost+found/.geli-sync
+    echo two >files/two
+    sleep 5
+    kill -KILL "$(process_of files)"
+    says "what is killed at rest is told" test "$(down; echo $?)" = 1
+    says "  and mounts again" up m.img
+    says "  with all that was done" eval '[ -e files/two ] && [ ! -e files/hello ]'
+    says "  and ends" down
+    says "  with nothing left" nothing_left
+}
+
+case_bridge() { # what stands between the server and the filesystem's program
+    local module
+    fresh
+    module=$(/usr/bin/python3 -c 'import pyfuse3; print(pyfuse3.__file__)' 2>notes) ||
+        { echo "not tried: the bridge (no pyfuse3)"; return; }
+    up m.img
+    says "a mount goes through the bridge" grep -q nbd_bridge.py <(words_of "$(process_of device)")
+    head -c 3M /dev/urandom >three && cp three files/
+    says "  and ends" down
+    says "  with nothing left" nothing_left
+    says "  and is clean" is_clean
+    says "  with the file" has three three
+    if unshare -m true 2>notes; then
+        says "without pyfuse3 nbdfuse stands in" unshare -m --propagation private sh -c 'mount --bind /dev/null "$4" &&
+            GELI_MOUNTS=$1/mounts "$2" -k key -j pass m.img files 2>notes && cmp three files/three &&
+            tr "\0" " " <"/proc/$(cat "$1"/mounts/*/keeper)/cmdline" >"$3" && pgrep -f "^nbdfuse $1/mounts" >"$3" &&
+            cp three files/again && GELI_MOUNTS=$1/mounts "$2" -u files' - "$folder" "$mount" out.notes "$module"
+        says "  which is said" told "pyfuse3 and libnbd's python3 aren't there"
+        says "  with nothing left" nothing_left
+        says "  and it is clean" is_clean
+        says "  with the file" has again three
+    fi
+    mkdir -p small
+    command mount -t tmpfs -o size=20M small small 2>notes || { echo "not tried: refused writes (no tmpfs)"; return; }
+    "$make" -i 100 -J pass 100M small/s.img key small.backup 2>notes
+    GELI_MOUNTS=$folder/mounts "$mount" -m -k key -j pass small/s.img files 2>notes
+    says "a write that is refused later is told to fsync" python3 - <<'EOS'
+import errno, os, sys
+file = os.open("files/large", os.O_RDWR | os.O_CREAT)
+try:
+    for _ in range(40):
+        os.write(file, os.urandom(1 << 20))
+    os.fsync(file)
+except OSError as failed:
+    sys.exit(failed.errno not in (errno.EIO, errno.ENOSPC, errno.ERANGE) and str(failed))  # fuse2fs says ERANGE for EIO
+sys.exit("nothing was refused")
+EOS
+    says "  and by -u" test "$(down; echo $?)" = 1
+    says "  with its cause" told 'a write or a flush was refused .*(.* is full)$'
+    says "  and nothing is left" nothing_left small/s.img
+    umount small
+}
+
+case_memory() { # much is written where there is little memory
+    local group=/sys/fs/cgroup/memory/try_mount.$$ limit=memory.limit_in_bytes process
+    [ -d "${group%/*}" ] || group=/sys/fs/cgroup/try_mount.$$ limit=memory.max
+    mkdir "$group" 2>notes && echo 512M 2>notes >"$group/$limit" || { echo "not tried: little memory (no cgroup)"; return; }
+    "$make" -i 100 -J pass 4300M m.img key memory.backup 2>notes
+    up -m m.img
+    for process in $(behind); do echo "$process" >"$group/cgroup.procs"; done
+    cat >large.py <<'EOS'
+import hashlib, os, random
+made = random.Random(1)
+with open("files/large", "wb") as file:
+    for _ in range(3800):
+        file.write(made.randbytes(1 << 20))
+    os.fsync(file.fileno())
+EOS
+    says "3,800 MiB are written where all programs of a mount, and who writes, have 512 MiB" timeout 1500 \
+        sh -c 'echo $$ >"$1/cgroup.procs" && exec python3 large.py' - "$group"
+    says "  and it ends" down
+    says "  with nothing left" nothing_left
+    says "  and mounts again" up m.img
+    says "  with all of it" python3 - <<'EOS'
+import random, sys
+made = random.Random(1)
+with open("files/large", "rb") as file:
+    sys.exit(not all(file.read(1 << 20) == made.randbytes(1 << 20) for _ in range(3800)))
+EOS
+    says "  and ends" down
+    sleep 1
+    rmdir "$group"
+}
+
+# goes_on FILE: writes a file in files/ every 20 ms, whatever becomes of the folder
+goes_on() { for _ in {1..150}; do echo plain >"files/w$RANDOM"; sleep 0.02; done 2>"$1"; }
+below() { unshare -m sh -c 'umount -l files 2>/dev/null; ls -A files'; } # what is in the folder below
+case_below() { # who goes on after the end of a mount writes nothing in the folder below it
+    local who wrong=0 at writer
+    unshare -m true 2>notes || { echo "not tried: the folder below a mount (no unshare)"; return; }
+    for ((at = 0; at < 15; at++)); do
+        fresh && up m.img
+        case $((at % 5)) in 0 | 1) who=files ;; 2 | 3) who=device ;; *) who='files device' ;; esac
+        goes_on writer.notes &
+        writer=$!
+        sleep 0.5
+        for it in $who; do kill -KILL "$(process_of "$it")"; done
+        sleep 1
+        mountpoint -q files 2>notes && { wrong=$((wrong + 1)) && echo "  at $at: it works"; }
+        [ -z "$(below)" ] || { wrong=$((wrong + 1)) && echo "  at $at ($who): $(below | wc -l) files below"; }
+        kill "$writer" && wait "$writer" 2>/dev/null
+        grep -q 'not connected' writer.notes || { wrong=$((wrong + 1)) && echo "  at $at: no error"; }
+        ! down || { wrong=$((wrong + 1)) && echo "  at $at: -u answered 0"; }
+        nothing_left || wrong=$((wrong + 1))
+        rmdir files 2>notes && mkdir files || { wrong=$((wrong + 1)) && echo "  at $at: not empty"; rm -rf files/*; }
+    done
+    says "after SIGKILL to what a mount lives by, 15 times, who writes gets errors, and nothing is below" test $wrong = 0
+    local user=65534 as
+    mknod -m 666 fuse c 10 229 2>notes && setpriv --reuid $user --clear-groups true 2>notes ||
+        { echo "not tried: the folder below a mount of another user (no setpriv)"; return; }
+    as=(unshare -m --propagation private sh -c 'mount --bind fuse /dev/fuse && exec setpriv --reuid "$@"' - "$user"
+        --clear-groups env HOME=/ XDG_RUNTIME_DIR=/nowhere GELI_MOUNTS="$folder/users")
+    chmod 755 . .. && mkdir -m 700 users && fresh && chown $user m.img key pass users files
+    cat >user.sh <<'EOS'
+# A mount of this user, which a signal ends: what the folder below lets him do then.
+"$1" -k key -j pass m.img files || exit 1
+kill -TERM "$(cat "$GELI_MOUNTS"/*/keeper)"
+for at in 1 2 3 4 5 6 7 8 9 10; do [ -e "$GELI_MOUNTS"/*/keeper ] || break; sleep 0.3; done
+! touch files/plain 2>/dev/null || echo "it can be written to"
+"$1" -k key -j pass m.img files && "$1" -u files && touch files/plain && rm files/plain || echo "not the next time"
+"$1" -k key -j pass m.img files && kill -TERM "$(cat "$GELI_MOUNTS"/*/keeper)"
+for at in 1 2 3 4 5 6 7 8 9 10; do [ -e "$GELI_MOUNTS"/*/keeper ] || break; sleep 0.3; done
+"$1" -u files && touch files/plain && rm files/plain || echo "not by -u"
+EOS
+    "${as[@]}" sh user.sh "$mount" >said 2>notes
+    says "after a SIGTERM its user can't write to the folder below, until the next mount or -u" test ! -s said
+    cat said >&3
+    says "  which says so" told 'a signal has ended its mount'
+    chown 0 m.img key pass files
+}
+
+case_reader() { # -r beside a run that writes
+    fresh
+    mkdir other
+    up m.img
+    says "a mount by -r beside one that writes" eval 'GELI_MOUNTS=$folder/mounts "$mount" -r -k key -j pass m.img other 2>notes'
+    says "  says who may write" told "note: process [0-9]* (.*geli-nbd.*) may write to 'm.img' now"
+    says "  and ends" eval 'GELI_MOUNTS=$folder/mounts "$mount" -u other 2>notes'
+    says "  as the other does" down
+    says "  with nothing left" nothing_left
+    up -r m.img
+    says "  and alone it says nothing" test "$(grep -c 'may write' notes)" = 0
+    down
+}
+
+case_state() { # the disk of the state of the mounts, usually /tmp, is full
+    mkdir -p mounts
+    command mount -t tmpfs -o size=1M mounts mounts 2>notes || { echo "not tried: a full disk (no tmpfs)"; return; }
+    fresh
+    up m.img
+    head -c 1M /dev/urandom >one && cp one files/
+    head -c 2M /dev/zero >mounts/filler 2>notes
+    says "where /tmp is full a mount ends in order" down
+    rm mounts/filler
+    says "  with nothing left" test -z "$(ls mounts; behind)"
+    says "  and clean" is_clean
+    says "  with its file" has one one
+    up m.img
+    head -c 2M /dev/zero >mounts/filler 2>notes
+    kill -KILL "$(process_of files)"
+    sleep 1
+    says "  and one that doesn't tells why" test "$(down; echo $?)" = 1
+    says "  in words" told "the filesystem's program was ended by SIGKILL"
+    rm mounts/filler
+    umount mounts
+}
+
+case_torn() { # an authenticated provider whose first sectors can't be read
+    local size
+    for size in 20M 160M; do
+        rm -f t.img torn.backup
+        "$make" -a -i 100 -J pass $size t.img key torn.backup 2>notes
+        up -m t.img
+        echo precious >files/precious
+        says "a mount of $size with authentication ends" down
+        head -c 16 /dev/urandom | dd of=t.img bs=1 seek=600 conv=notrunc status=none
+        says "  and where its superblock can't be read it isn't mounted" test "$(up t.img; echo $?)" = 1
+        says "  which is said" told "its first sectors can't be read"
+        says "  and that nothing is to be made there" told "Don't make one over it"
+        [ $size = 160M ] || continue
+        says "  and -c takes the second superblock" up -c t.img
+        says "  which is said" told 'mended by the second superblock'
+        says "  and its file is there" grep -q precious files/precious
+        says "  and it ends" down
+        says "  and mounts again" up t.img
+        says "  and ends" down
+        says "  with nothing left" nothing_left t.img
+    done
+}
+
 case_sync() { # some seconds after the last write it is synced, though nobody asked
     have strace || { echo "not tried: a sync that nobody asks for (no strace)"; return; }
     fresh
@@ -201,6 +411,8 @@ case_sync() { # some seconds after the last write it is synced, though nobody as
     sleep 6
     says "a sync reaches the image some seconds after a write" grep -q 'fdatasync\|fsync' traced
     wait
+    timeout 10 strace -f -qq -e trace=fdatasync,fsync -o traced -p "$(process_of geli)" 2>notes
+    says "  and then none any more" test ! -s traced
     says "  and it ends" down
     says "  with nothing left" nothing_left
 }
@@ -339,7 +551,7 @@ case_partition() { # a filesystem in a partition of the data: nbdkit stands betw
     says "  and SIGTERM to all ends it in order" nothing_left p.img
     for who in all server; do
         says "  so that nothing is mended" test "$(up -n 1 p.img; grep -c 'was mended' notes)" = 0
-        cp three "files/by-$who" && sync "files/by-$who" && sleep 1
+        cp three "files/by-$who" && sync "files/by-$who" && sleep 6
         kill -KILL $(if [ $who = all ]; then behind; else process_of server; fi)
         says "  and SIGKILL to $who is told" test "$(down; echo $?)" = 1
         says "  with nothing left" nothing_left p.img 5
@@ -728,7 +940,7 @@ case_language() { # what programs say in another language
     kill -KILL "$(process_of keeper)" "$(process_of files)"
     sleep 0.5
     says "  and where its keeper and its filesystem's program were killed" test "$(in_german down; echo $?)" = 1
-    says "  which is told" told 'the filesystem.s program has died'
+    says "  which is told" told "the filesystem's end wasn't orderly\|the filesystem's program"
     says "  nothing is left" nothing_left
     says "a mount in English" up m.img
     says "  ends in German" in_german down
@@ -743,7 +955,10 @@ case_replaced() { # the image goes from under its mount
         echo lost >files/lost
         sleep 1
         $how
-        says "an image after '$how' is told" test "$(down; echo $?)" = 1
+        sleep 4
+        says "an image after '$how' is shown by -l" test "$(GELI_MOUNTS=$folder/mounts "$mount" -l 2>&1 |
+            grep -c 'goes wrong.*removed or replaced\|goes wrong.*made shorter')" = 1
+        says "  and is told" test "$(down; echo $?)" = 1
         says "  in words" told "m.img' was \(removed or replaced\|made shorter\)\|a write or a flush was refused"
         rm -f m.img && fresh
         says "  and nothing is left" nothing_left
@@ -820,7 +1035,7 @@ case_namespace() { # another mount namespace, which has the mount too
 
 # signalled SIGNAL WHO: a mount of which the program of this role, or all programs, get a signal
 signalled() {
-    fresh && up m.img && echo a >files/a
+    fresh && { up m.img || cat notes >&3; } && echo a >files/a
     # shellcheck disable=SC2046 # they are numbers
     if [ "$2" = all ]; then kill "-$1" $(behind); else kill "-$1" "$(process_of "$2")"; fi
 }
@@ -843,7 +1058,7 @@ case_signals() { # signals to a mount that is used
         done
     done
     for who in device server files geli; do
-        fresh && up m.img && echo a >files/a && sleep 1
+        fresh && up m.img && echo a >files/a && sleep 6 # until what the kernel keeps is written
         kill -KILL "$(process_of $who)"
         sleep 1
         says "SIGKILL to the $who is told" test "$(down; echo $?)" = 1
@@ -1036,7 +1251,7 @@ GELI_NBD=$(readlink -f "${GELI_NBD:-$top/geli-nbd}")
 export GELI GELI_NBD
 [ $# = 0 ] || shift
 names=("$@")
-[ ${#names[@]} -gt 0 ] || names=(rest sync fio large kernel partition full serve refused slow stalled damaged interrupt by_hand
+[ ${#names[@]} -gt 0 ] || names=(rest removed sync bridge below reader state torn memory fio large kernel partition full serve refused slow stalled damaged interrupt by_hand
     language replaced programs namespace signals shutdown moments kill)
 work=$(mktemp -d)
 folder=$work/none failures=0

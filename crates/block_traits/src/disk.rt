@@ -110,6 +110,7 @@ pub trait Disk: Drop {
 /// A boxed disk is the disk in it.
 impl Disk for Box<dyn Disk> {
     ghost state = { λ b. (Disk-box b).state b.value };
+
     ghost wants_room = { λ b. (Disk-box b).wants_room b.value };
 
     fn sectors(&self) -> u64 {

@@ -243,6 +243,7 @@ impl<A: Disk, B: Disk> Disk for Concat<A, B> {
     ghost use Rattle.block_traits.specs.Disk.{FailsIn, Gives, Logs};
 
     ghost state = { concat_disk_of };
+
     ghost wants_room = { wants_room_of };
 
     fn sectors(&self) -> u64 {

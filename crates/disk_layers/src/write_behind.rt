@@ -277,6 +277,7 @@ impl<D: Disk> Disk for WriteBehind<D> {
     ghost use Rattle.block_traits.specs.Parts.{parts};
 
     ghost state = { behind_disk_of };
+
     ghost wants_room = { λ w. D.wants_room w.under };
 
     fn sectors(&self) -> u64 {

@@ -37,10 +37,12 @@ module _ (kept : ℕ → List (List ℕ)) (c : Content) (steps : List Step) (no_
   pub reads_from_files : ReadsFromFiles kept c steps
   reads_from_files = record {
     whole = λ image left.
-        let one = no_more.whole image left in
-        (one.0, λ k sector is below.
-            subst (λ (s : List Step). image_units k sector image ≡ read k sector (chosen k sector (cell c s) one.0)) all
-            ((at_end k sector is below).whole one.0 image (subst (λ (m : Content). IsImage m one.0 image) (last_moment steps c) one.1)));
+        let one = no_more.whole image left in (
+          one.0,
+          λ k sector is below.
+              subst (λ (s : List Step). image_units k sector image ≡ read k sector (chosen k sector (cell c s) one.0)) all
+              ((at_end k sector is below).whole one.0 image (subst (λ (m : Content). IsImage m one.0 image) (last_moment steps c) one.1)),
+        );
     torn = λ image left k sector is below.
         let P : List Step → Content → Type 0 = λ s m. ReadsWithCauses k sector (cell c s) (IsUnsettled m) (ever c s) image in
         subst (λ (s : List Step). P s (after steps c)) all

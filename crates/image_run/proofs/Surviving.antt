@@ -72,7 +72,7 @@ module _ {F : Type 0} {g : Ghosts (FileDisk F)} (told : F → Option Told) where
         let r = is_of names disks survives.before survives.was.0 tell survives.was.1 in
         let content = ap (λ s. s.content) r.state in
         let grew = in_file r.disk drawer.disk.content survives.play.steps (tells_files told same r.disk r.telling) (survives.content ∙ ap (option_map (after survives.play.steps)) (sym content))
-            (subst (λ (k : Option Content). IfSome k (EnduresCrashes survives.play.steps)) (sym content) survives.endures) in
+        (subst (λ (k : Option Content). IfSome k (EnduresCrashes survives.play.steps)) (sym content) survives.endures) in
         record {
           place = r.place;
           disk = r.disk;

@@ -96,7 +96,7 @@ AnswersWrite side wanting q payload Done old new =
 AnswersWrite side wanting q payload Failed old new =
     MayWrite side old q
     × (CannotSplice side.keying (range_of q) old new
-      ⊎ (((wanting ≡ false) ⊎ (has_fua q.flags ≡ true)) × IsWrittenInPart side.keying (range_of q) (has_fua q.flags) payload old new))
+    ⊎ (((wanting ≡ false) ⊎ (has_fua q.flags ≡ true)) × IsWrittenInPart side.keying (range_of q) (has_fua q.flags) payload old new))
 AnswersWrite side wanting q payload NoRoom old new =
     MayWrite side old q × (wanting ≡ true) × IsWrittenInPart side.keying (range_of q) (has_fua q.flags) payload old new
 AnswersWrite side wanting q payload ReadOnly old new = IsRefusedWrite side old q ReadOnly × (new ≡ old)

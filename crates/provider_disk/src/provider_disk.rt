@@ -58,6 +58,7 @@ impl<D: Disk> Disk for ProviderDisk<D> {
     ghost use Rattle.provider_disk.specs.ProviderDisk.{provider_disk_of};
 
     ghost state = { provider_disk_of D.state };
+
     ghost wants_room = { λ disk. D.wants_room disk.on.disk };
 
     fn sectors(&self) -> u64 {

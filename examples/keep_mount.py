@@ -24,6 +24,7 @@ in the folder below, where nothing is encrypted. For the end by a signal that fo
 """
 import collections
 import contextlib
+import errno
 import fcntl
 import json
 import os
@@ -58,7 +59,7 @@ SLOW = "note: pyfuse3 and libnbd's python3 aren't there (Debian: python3-pyfuse3
 NEEDS_JOURNAL = "Journal needs recovery"  # fuse2fs says it if it may not write
 JOURNAL = "Writing to the journal is not supported."  # fuse2fs says it of each ext4 that has one
 AT_REST = 3.0  # seconds after which what was written is synced, though nobody asks
-OWN_REQUESTS = 56 + 64  # bytes that fuse2fs reads of an fsync of a file, and of its close
+OWN_REQUESTS = 56 + 64 + 64  # bytes that fuse2fs reads of an fsync of a file, and of the close of it and of a folder
 SOME = 1000  # names of a filesystem that are looked at for a file
 OWN_FILE = ".geli-sync"  # in lost+found
 SECOND_SUPERBLOCK = {1024: 8193, 2048: 16384, 4096: 32768}  # of an ext: the bytes of its blocks, and which block
@@ -363,7 +364,8 @@ class Rest:
     def __init__(self, folder, device, program):
         self.folder, self.device = folder, device
         self.process = program and program.process.pid
-        self.file = None  # of the filesystem
+        self.number = os.stat(folder).st_dev
+        self.file = None  # of the filesystem, from its root on
         self.seen = self.used()  # by which its use is seen; None if it must be synced, whatever that is
 
     def look(self):
@@ -387,32 +389,60 @@ class Rest:
 
     def write_back(self):
         """Lets fuse2fs write; what it has read once that is done, if nobody else has asked it for anything meanwhile."""
-        file = self.opened()
+        root = os.open(self.folder, os.O_RDONLY | os.O_DIRECTORY)
         try:
-            used = self.used()
-            os.fsync(file)
+            file = self.opened(root)
+            try:
+                used = self.used()
+                os.fsync(file)
+            finally:
+                os.close(file)
         finally:
-            os.close(file)
+            os.close(root)
         return used + OWN_REQUESTS
 
-    def opened(self):
-        """A file of the filesystem, open for writing. Where there is none, one is made, which stays."""
-        how = os.O_WRONLY | os.O_NOFOLLOW | os.O_NONBLOCK
+    def opened(self, root):
+        """A file of the filesystem, open for writing. Where there is none, one is made, which stays. Each is opened
+        from the mount's own root: so nothing is made below a mount that goes just now, nor asked of one inside it."""
+        self.must_be_here(root)
         with contextlib.suppress(OSError):
-            if not self.file or not os.path.isfile(self.file):
-                self.file = self.found()
+            self.file = self.file or self.found(root)
             if self.file:
-                return os.open(self.file, how)
-        place = os.path.join(self.folder, "lost+found")
-        self.file = os.path.join(place if os.path.isdir(place) else self.folder, OWN_FILE)
-        return os.open(self.file, how | os.O_CREAT, 0o600)
+                return self.open_file(self.file, root)
+        self.file = None
+        return self.open_file(self.own(root), root, os.O_CREAT)
 
-    def found(self):
+    def must_be_here(self, file):
+        if os.fstat(file).st_dev != self.number:
+            raise OSError(errno.EXDEV, os.strerror(errno.EXDEV), self.folder)
+
+    def open_file(self, name, root, makes=0):
+        file = os.open(name, os.O_WRONLY | os.O_NOFOLLOW | os.O_NONBLOCK | makes, 0o600, dir_fd=root)
+        try:
+            self.must_be_here(file)
+        except OSError:
+            os.close(file)
+            raise
+        return file
+
+    @staticmethod
+    def own(root):
+        """The name of a file of its own."""
+        try:
+            is_there = stat.S_ISDIR(os.stat("lost+found", dir_fd=root, follow_symlinks=False).st_mode)
+        except FileNotFoundError:
+            is_there = False
+        return os.path.join("lost+found", OWN_FILE) if is_there else OWN_FILE
+
+    def found(self, root):
         """A regular file among the first names of the filesystem; None if there is none."""
         left = SOME
-        for at, folders, names in os.walk(self.folder):
+        for at, folders, names, file in os.fwalk(".", dir_fd=root):
+            if os.fstat(file).st_dev != self.number:  # another is mounted there
+                folders.clear()
+                continue
             for name in names[:left]:
-                if stat.S_ISREG(os.lstat(os.path.join(at, name)).st_mode):
+                if stat.S_ISREG(os.stat(name, dir_fd=file, follow_symlinks=False).st_mode):
                     return os.path.join(at, name)
             left -= len(names) + len(folders)
             if left <= 0:

@@ -118,7 +118,7 @@ key_ready
 # keeps it running when the terminal is closed. If this is broken off before, nobody has asked it to write yet.
 left() {
     [ -z "${!:-}" ] || kill -KILL -- "-$!" "$!" 2>/dev/null || : # it may have no session yet
-    rm -f -- "$socket" "$socket.pid" "$socket.ended" "$socket.clients"
+    rm -f -- "$socket" "$socket.pid"{,.new} "$socket.ended" "$socket.clients"
 }
 setsid python3 -I -B "$library/nbd_server.py" ended="$socket.ended" "${partition[@]}" socket="$socket" \
     clients="$socket.clients" pid="$socket.pid" -- "$(command -v "$GELI_NBD")" "${readonly[@]}" "${key[@]}" "$image" &

@@ -318,6 +318,18 @@ case_below() { # who goes on after the end of a mount writes nothing in the fold
         rmdir files 2>notes && mkdir files || { wrong=$((wrong + 1)) && echo "  at $at: not empty"; rm -rf files/*; }
     done
     says "after SIGKILL to what a mount lives by, 15 times, who writes gets errors, and nothing is below" test $wrong = 0
+    says "what the keeper syncs is never a file of another mount, or below it" python3 -I - "$top/examples" <<'EOP'
+import os, sys, types
+sys.path.insert(0, sys.argv[1])
+import keep_mount
+rest = keep_mount.Rest("files", "m.img", types.SimpleNamespace(process=types.SimpleNamespace(pid=os.getpid())))
+rest.number, rest.seen = None, None
+try:
+    rest.look()
+except OSError:
+    sys.exit(bool(os.listdir("files")))
+sys.exit(1)
+EOP
     local user=65534 as
     mknod -m 666 fuse c 10 229 2>notes && setpriv --reuid $user --clear-groups true 2>notes ||
         { echo "not tried: the folder below a mount of another user (no setpriv)"; return; }

@@ -675,6 +675,7 @@ except OSError:
 at = (1 << 20) + (1 << 19)
 try:
     os.pwrite(disk, os.pread(disk, 65536, at), at)
+    os.fsync(disk)  # the kernel keeps what is written until then
 except OSError:
     refused = 1
 os.ftruncate(filler, 0)
@@ -727,7 +728,9 @@ a write or a flush was refused once, at"$'\n1'
         echo "not tried: a provider in a partition of a GPT (no sfdisk)"
     fi
     # The README's lines, typed into a fresh folder; its three questions are answered as a person would.
-    sed -n '/^## A filesystem in it/,/^## Without the scripts/p' "$top/README.md" | sed '1,/^```/d; /^```/,$d' >block
+    sed -n '/^\*\*A mount\*\*/,/^## /p' "$top/README.md" | sed '1,/^```/d; /^```/,$d' >block
+    says "the README has the lines of a mount" test "$(cut -d' ' -f1 block | xargs)" = \
+        'make-provider.sh mkdir mount-provider.sh echo mount-provider.sh'
     if is_trial; then sed -i 's/make-provider.sh 80M/make-provider.sh -i 100 2M/' block; fi
     mkdir fresh
     cat >type.py <<'EOF'

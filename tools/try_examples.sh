@@ -666,6 +666,7 @@ import os, sys
 disk = os.open(sys.argv[1], os.O_RDWR)
 same, refused = os.pread(disk, 4096, 1 << 19), 0
 os.pwrite(disk, same, 1 << 19)
+os.fsync(disk)
 filler = os.open("full.d/filler", os.O_WRONLY | os.O_CREAT)
 try:
     while True:

@@ -181,9 +181,9 @@ reply() { # the last line of a reply, or what is there after ten seconds
     printf '%s' "$line"
 }
 ask() { printf '%s\n' "$*" >&"${run[1]}" && reply; }
-end() { # the input ends; `ended` is the status
-    local to=${run[1]}
-    exec {to}>&-
+end() { # the input ends, if the script is still there; `ended` is the status
+    local to=${run[1]:-}
+    [ -z "$to" ] || exec {to}>&-
     { wait "$run_is"; } 2>/dev/null
     ended=$?
 }

@@ -497,11 +497,11 @@ EOF
 import errno, os
 import nbd
 
-def refused(work, *words):
+def refused(work, *words, error=errno.EIO):
     try:
         work(*words)
     except nbd.Error as failed:
-        return failed.errnum == errno.EIO
+        return failed.errnum == error
     return False
 
 EOS
@@ -546,7 +546,7 @@ with open("small.d/filler", "ab", buffering=0) as filler:
             filler.write(bytes(4096))
     except OSError as failed:
         assert failed.errno == errno.ENOSPC
-assert refused(h.pwrite, b"b" * 8192, at + 65536)
+assert refused(h.pwrite, b"b" * 8192, at + 65536, error=errno.ENOSPC)
 h.pwrite(b"c" * 8192, at)  # there is room for it already
 os.truncate("small.d/filler", 0)
 if os.environ["AGAIN"]:

@@ -654,7 +654,7 @@ if have nbdkit nbdfuse fuse2fs mke2fs e2fsck fusermount3 blkid && [ -w /dev/fuse
     rm "$files/there"
     "$in" -k key -j pass m.out m.img 2>notes
     "$mount" -k key -j pass m.img "$files" 2>notes
-    says "a server that dies is told" test "$(kill -9 "$(pgrep -f "^python3 .*ended=$GELI_MOUNTS/")"; sleep 1
+    says "a server that dies is told" test "$(pkill -KILL -f "^python3 -I -B [^ ]*nbd_server.py ended=$GELI_MOUNTS/"; sleep 1
         "$mount" -u "$files" 2>&1 | grep -c 'may be lost')" -ge 1
     says "  and nothing is left" test -z "$(ls "$GELI_MOUNTS")"
     mkdir full.d

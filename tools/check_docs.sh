@@ -24,7 +24,7 @@ if ! found=$(./check_links.py "$installed"); then
     status=1
     while IFS= read -r line; do echo "as installed: $line"; done <<<"$found"
 fi
-for check in definitions names_twice page_numbers format_numbers pictures format_pictures verbs case_files; do
+for check in definitions names_twice page_numbers format_numbers pictures format_pictures gate_times verbs case_files; do
     "./$check.py" --check || status=1
 done
 cd ..

@@ -4,7 +4,7 @@
     tools/page_numbers.py [--check]
 
 A rule is a page, what stands around the number there, and what the number is: the refusals in the code, how many writes
-wait there, the tables and measurements in docs/PERFORMANCE.md, the verbs that docs/FREEBSD.md calls missing, and what
+wait there, the tables and measurements in docs/PERFORMANCE.md and bench/gate.txt, the verbs that docs/FREEBSD.md calls missing, and what
 packaging/control has.
 Without --check each page is written anew where a number differs; with it each such number is printed, and the status is
 1 where there is one. It is 2 where a page hasn't what a rule looks for.
@@ -15,7 +15,7 @@ import re
 import sys
 
 ROOT = pathlib.Path(__file__).resolve().parent.parent
-SPEEDS = "docs/PERFORMANCE.md"
+SPEEDS, GATE = "docs/PERFORMANCE.md", "bench/gate.txt"
 WORDS = "no one two three four five six seven eight nine ten eleven twelve".split()
 
 
@@ -90,9 +90,9 @@ def first_build(which):
 
 
 def gate():
-    """The minutes of the gate with nothing kept."""
-    minutes, seconds = map(int, first(SPEEDS, r"in (\d+) minutes and (\d+) s"))
-    return str(math.floor(minutes + seconds / 60 + 0.5))
+    """What the gate took with nothing kept: seconds of the clock, and those of processors."""
+    clock, spent = first(GATE, r"(?m)^([\d,]+) s, with ([\d,]+) s of processor time")
+    return int(clock.replace(",", "")), spent
 
 
 def by_the_call():
@@ -117,7 +117,9 @@ RULES = [
     ("README.md", r"in within # s with them, this in #(?= )",
      lambda: [copied("nbdcopy in", 3), copied("nbdcopy in", 1)]),
     ("README.md", r"builds: # to # min", lambda: [first_build(0), first_build(1)]),
-    ("README.md", r"program; # min", lambda: [gate()]),
+    ("README.md", r"program; # min", lambda: [str(math.floor(gate()[0] / 60 + 0.5))]),
+    (SPEEDS, r"gate costs # s of processor with nothing kept, in # minutes and # s",
+     lambda: [gate()[1], *map(str, divmod(gate()[0], 60))]),
     ("README.md", r"glibc # or later", lambda: first("packaging/control", r"libc6 \(>= (.*?)\)")),
     ("package", r"glibc # or later", lambda: first("packaging/control", r"libc6 \(>= (.*?)\)")),
     ("geli", r"# minutes and more", lambda: [first_build(0)]),

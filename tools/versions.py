@@ -67,9 +67,10 @@ def in_sources(day):
 
 def toolchain():
     """The pages that name the toolchain, or its logic, otherwise than rt does."""
-    if not shutil.which("rt"):
+    named = re.fullmatch(r"(rattle-kit-\w+) logic (\w+)", printed("rt", "version")) if shutil.which("rt") else None
+    if not named:
         return
-    kit, _, logic = printed("rt", "version").partition(" logic ")
+    kit, logic = named.groups()
     for page in [ROOT / "README.md", *sorted((ROOT / "docs").glob("*.md"))]:
         text = page.read_text(encoding="utf-8")
         for has in re.findall(r"\brattle-kit-\w+", text):

@@ -2,18 +2,18 @@
 """Runs a command and prints what each crate cost in it, or draws what was printed.
 
     tools/gate_times.py [--edits] COMMAND...         as rt ci
-    tools/gate_times.py [--edits] --watch PROCESS    looks at a command that runs already, by its number, until it ends
-    tools/gate_times.py --picture LOG                keeps the table of a log in bench/gate.txt, and draws gate.svg of it
+    tools/gate_times.py [--edits] --watch PROCESS    looks at a command that runs already, by its number, to its end
+    tools/gate_times.py --picture LOG                keeps a log's table in bench/gate.txt, and draws gate.svg of it
     tools/gate_times.py [--check]                    draws it of what is kept; with --check compares it
 
 A line has processor seconds of a crate's proof, of its tests' proof and of its must-fail edits, and what one of these
 edits took in the mean. The dearest crate comes first. Then come the ten dearest wrong bodies, proofs and proofs of
 tests, and the whole beside that of bench/gate.txt, which is of a gate with nothing kept. With --edits all wrong bodies
-are listed, and for each crate what its edits begin and end with (`as it stands`). It is started at the repository's root
-and ends with the command's status.
+are listed, and for each crate what its edits begin and end with (`as it stands`). It is started at the repository's
+root and ends with the command's status.
 
-It looks at the running checks every half second, so what a check does in its last half second is lost, and each sum is a
-little too low; the last line has the whole as the system counts it. With --watch it has what was seen, and nothing of
+It looks at the running checks every half second, so what a check does in its last half second is lost, and each sum is
+a little too low; the last line has the whole as the system counts it. With --watch it has what was seen, and nothing of
 what had ended before.
 """
 import collections
@@ -118,7 +118,8 @@ def watch(top, works, seconds, has_ended):
 def print_row(name, row, edits):
     """Prints the seconds of a crate, or of all, which has this many edits."""
     each = f"{row['edits'] / edits:,.0f}" if edits else ""
-    print(f"| {name} | {row['proof']:,.0f} | {row['tests']:,.0f} | {row['edits']:,.0f} | {each} | {sum(row.values()):,.0f} |")
+    parts = [f"{row[it]:,.0f}" for it in ("proof", "tests", "edits")]
+    print("| " + " | ".join([name, *parts, each, f"{sum(row.values()):,.0f}"]) + " |")
 
 
 def print_each(each, words, most=None):

@@ -9,7 +9,8 @@ FOLDER = ROOT / "docs/pictures"
 # The colours on a light and on a dark page. They stand in the rules themselves, since some viewers know no variables of
 # CSS.
 LIGHT = {"page": "#ffffff", "ink": "#1f2328", "faint": "#59636e", "line": "#8c959f", "code": "#ddf4ff",
-         "law": "#fff1d6", "test": "#f0f2f4", "way": "#0969da", "far": "#d1242f", "near": "#8250df", "bar": "#54aeff", "mesh": "#d8dee4", "mark": "#ffb8b0"}
+         "law": "#fff1d6", "test": "#f0f2f4", "way": "#0969da", "far": "#d1242f", "near": "#8250df", "bar": "#54aeff",
+         "mesh": "#d8dee4", "mark": "#ffb8b0"}
 DARK = {"page": "#0d1117", "ink": "#e6edf3", "faint": "#9198a1", "line": "#6e7681", "code": "#12324f", "law": "#4d3a12",
         "test": "#21262d", "way": "#58a6ff", "far": "#ff7b72", "near": "#d2a8ff", "bar": "#1f6feb", "mesh": "#30363d",
         "mark": "#8e2b26"}

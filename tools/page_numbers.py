@@ -3,9 +3,9 @@
 
     tools/page_numbers.py [--check]
 
-A rule is a page, what stands around the number there, and what the number is: the refusals in the code, how many writes
-wait there, the tables and measurements in docs/PERFORMANCE.md and bench/gate.txt, the verbs that docs/FREEBSD.md calls missing, and what
-packaging/control has.
+A rule is a page, what stands around the number there, and what the number is: the refusals, iterations and waiting
+writes of the code, the tables and measurements in docs/PERFORMANCE.md and bench/gate.txt, the verbs that docs/FREEBSD.md
+calls missing, and what packaging/control has.
 Without --check each page is written anew where a number differs; with it each such number is printed, and the status is
 1 where there is one. It is 2 where a page hasn't what a rule looks for.
 """
@@ -68,6 +68,12 @@ def waiting():
     return first("crates/image_layers/src/image_disks.rt", r"const ROOM: u32 = (\d+);")
 
 
+def iterations(grouped):
+    """How often `init` iterates if nothing is said; with a comma in it if so asked."""
+    count = int(first("crates/key_commands/src/set_key.rt", r"USUAL_ITERATIONS: i32 = ([\d_]+);")[0])
+    return [f"{count:,}" if grouped else str(count)]
+
+
 def missing_verbs():
     return WORDS[len(re.findall("`", first("docs/FREEBSD.md", r"(?m)^\| (.*) \| missing \|$")[0])) // 2]
 
@@ -111,6 +117,12 @@ RULES = [
     ("README.md", r"\(# writes wait", waiting),
     ("man/geli.8", r"up to # device writes wait", waiting),
     ("man/geli-nbd.8", r"up to # device writes wait", waiting),
+    ("man/geli.8", r"from 0 to 2147483647\.\nDefault: #\.", lambda: iterations(False)),
+    ("man/geli.8", r"or # if its keys had no passphrase", lambda: iterations(False)),
+    ("man/geli.8", r"not measured: the default is #\.", lambda: iterations(False)),
+    ("docs/FREEBSD.md", r"`-i`, by default #;", lambda: iterations(True)),
+    ("docs/FREEBSD.md", r"make-provider\.sh takes #\.(?=\s)",
+     lambda: [f"{int(first('examples/make-provider.sh', r'iterations=([0-9]+)')[0]):,}"]),
     ("README.md", r"\[# verbs\]", lambda: [missing_verbs()]),
     ("README.md", r"# MB/s written, where C over OpenSSL writes # without AES instructions and # with them",
      lambda: [speed(0), speed(1), speed(3)]),

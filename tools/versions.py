@@ -2,7 +2,7 @@
 """Compares what says a version with packaging/version, which alone makes it.
 
     tools/versions.py                 the tree
-    tools/versions.py PLACE...        what was installed or packed: the prefix of ./install, an archive, a Debian package
+    tools/versions.py PLACE...        what was installed or packed: the prefix of ./install, an archive, a package
 
 In the tree the day of packaging/version is that of `geli-nbd --version`, as the program's sources have it and as each
 program in out/ prints it; of both manual pages; and of a version without a tag. `geli` prints no version: its replies

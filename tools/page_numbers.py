@@ -4,8 +4,8 @@
     tools/page_numbers.py [--check]
 
 A rule is a page, what stands around the number there, and what the number is: the refusals, iterations and waiting
-writes of the code, the tables and measurements in docs/PERFORMANCE.md and bench/gate.txt, the verbs that docs/FREEBSD.md
-calls missing, and what packaging/control has.
+writes of the code, the tables and measurements in docs/PERFORMANCE.md and bench/gate.txt, the verbs that are missing
+by docs/FREEBSD.md, and what packaging/control has.
 Without --check each page is written anew where a number differs; with it each such number is printed, and the status is
 1 where there is one. It is 2 where a page hasn't what a rule looks for.
 """

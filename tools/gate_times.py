@@ -190,7 +190,9 @@ def table_of(text):
     whole = WHOLE.search(text)
     if at is None or not whole:
         sys.exit(f"no table of tools/gate_times.py, with the whole below it: {HEAD}")
-    rows = itertools.takewhile(lambda line: line.startswith("|"), lines[at:])
+    rows = [*itertools.takewhile(lambda line: line.startswith("|"), lines[at:])]
+    if not any(row.startswith("| `") for row in rows):
+        sys.exit("no crate is in its table: what was kept costs nothing, as in rt ci without --anew")
     return [*rows, "", whole[0]]
 
 

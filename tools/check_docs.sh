@@ -4,8 +4,17 @@
 # With shellcheck(1) the scripts are looked at too.
 #
 #   tools/check_docs.sh
+#   tools/check_docs.sh PREFIX      what ./install put there: its links, and its versions beside those of the tree
+prefix=${1:-}
+case $prefix in '' | /*) ;; *) prefix=$PWD/$prefix ;; esac
 cd "$(dirname "$(readlink -f "${BASH_SOURCE[0]}")")" || exit 2
 status=0
+if [ -n "$prefix" ]; then
+    ./versions.py "$prefix" || status=1
+    ./check_links.py "$prefix/share/doc/geli" || status=1
+    exit $status
+fi
+./versions.py || status=1
 ./check_pages.py || status=1
 ./check_links.py || status=1
 installed=$(mktemp -d)
@@ -15,7 +24,7 @@ if ! found=$(./check_links.py "$installed"); then
     status=1
     while IFS= read -r line; do echo "as installed: $line"; done <<<"$found"
 fi
-for check in definitions names_twice format_numbers pictures format_pictures verbs case_files; do
+for check in definitions names_twice page_numbers format_numbers pictures format_pictures gate_times verbs case_files; do
     "./$check.py" --check || status=1
 done
 cd ..

@@ -12,7 +12,7 @@ It prints, each with its file and line:
   the tree beside the pages;
 - paths that lead to no file, from the root or from the page's own folder;
 - in a list under a file of specs/ each definition that this file hasn't;
-- a README of more than 7 KB, which nobody reads in three minutes;
+- a README of more than 7 KB, which nobody reads in three minutes, and other pages that grow beyond BYTES;
 - crates that docs/PROOFS.md doesn't name, and where the table of docs/ARCHITECTURE.md isn't crates.txt: its groups, the
   crates of each in their order, and what each stands on; crates of crates.txt before one that they use;
 - wrong bodies that must stay (STAY) and have no row in docs/WRONG_BODIES.md or no file, each wrong body whose old text
@@ -33,7 +33,9 @@ from pathlib import Path
 from layer_layout import direct, uses_of
 
 ROOT = Path(__file__).resolve().parent.parent
-COLUMNS, WORDS, README_BYTES = 120, 40, 7168
+COLUMNS, WORDS = 120, 40
+# The bytes that pages may have which somebody is to read whole.
+BYTES = {"README.md": 7168, "docs/PERFORMANCE.md": 16384, "docs/DECISIONS.md": 18432}
 
 PAGE = re.compile(r"README\.md|docs/[^/]*\.md|(?:crates/[^/]*|examples|packaging)/README\.md")
 NAME = re.compile(r"[A-Za-z_]\w*(?:(?:::|/)[A-Za-z_]\w*)*(?:\(\))?")
@@ -175,10 +177,11 @@ def strayed_definitions(page, lines):
                     yield at, "no `%s` in %s" % (code, ", ".join(file.name for file in specs))
 
 
-def long_readme():
-    size = len((ROOT / "README.md").read_bytes())
-    if size > README_BYTES:
-        yield "README.md: %d bytes, more than %d" % (size, README_BYTES)
+def long_pages():
+    for name, most in BYTES.items():
+        size = len((ROOT / name).read_bytes())
+        if size > most:
+            yield "%s: %d bytes, more than %d" % (name, size, most)
 
 
 def missing_crates():
@@ -298,7 +301,7 @@ def main():
             print("%s:%d: %s" % (name, at, what))
         count += len(found)
     if not sys.argv[1:]:
-        others = [*long_readme(), *missing_crates(), *early_crates(), *differing_crates(), *missing_bodies(),
+        others = [*long_pages(), *missing_crates(), *early_crates(), *differing_crates(), *missing_bodies(),
                   *bad_count(names), *bad_edits(names), *destructors(names)]
         print("".join(line + "\n" for line in others), end="")
         count += len(others)

@@ -1,8 +1,9 @@
 #!/usr/bin/env python3
-"""Draws the pictures of the format, for docs/FORMAT.md: docs/pictures/keys.svg and docs/pictures/sectors.svg.
+"""Draws the pictures of the format, for docs/FORMAT.md: image.svg, keys.svg and sectors.svg in docs/pictures.
 
     tools/format_pictures.py [--check]
 
+- image.svg: an image, and its metadata to scale, by the places of their fields in eli_metadata and key_slots.
 - keys.svg: the tree of keys (KEYS and ARROWS below). Each key's definition must stand in its file of specs/.
 - sectors.svg: one logical sector of 4,096 bytes under each authentication, to scale, by the bytes of tags in eli_base.
 
@@ -13,8 +14,9 @@ import sys
 
 from definitions import read
 from drawing import ROOT, box, label, made, picture, text_of
+from format_numbers import field_places
 
-EDGE, WIDE, HIGH, STEP_X, STEP_Y = 24, 286, 62, 310, 100
+BOX, EDGE, WIDE, HIGH, STEP_X, STEP_Y = 30, 24, 286, 62, 310, 100
 
 # Where each key stands (column, row), its kind of box, its name and bytes, how it is made, and its definition.
 KEYS = {
@@ -93,14 +95,69 @@ def keys():
     return picture(EDGE * 2 + 2 * STEP_X + WIDE, 84 + 10 * STEP_Y + HIGH + EDGE, "The tree of keys", parts)
 
 
+# ---- an image, and its metadata to scale
+
+SECTORS = [("logical sector 0", 190, "code"), ("logical sector 1", 190, "code"), ("..", 60, "code"),
+           ("the last one", 190, "code"), ("unused", 90, "test"), ("metadata", 140, "law")]
+METADATA_SCALE, LEAST = 1.62, 24
+
+
+def fields():
+    """The places of the metadata in order: name, offset and bytes; small ones that are side by side are one."""
+    found, run = [], []
+    for name, (at, size) in sorted(field_places(), key=lambda it: it[1]):
+        if size < LEAST and name not in ("md_magic", "md_hash", ""):
+            run.append((name, at, size))
+            continue
+        if run:
+            found.append((", ".join(it[0].removeprefix("md_") for it in run), run[0][1], sum(it[2] for it in run)))
+            run = []
+        found.append((name.removeprefix("md_") or "zero", at, size))
+    return found
+
+
+def image():
+    x, top = EDGE, 84
+    parts = [label(EDGE, 32, "An image", "title"),
+             label(EDGE, 54, "A logical sector is a whole number of device sectors of 512 bytes; the metadata are one.",
+                   "faint small"), label(EDGE, top - 8, "offset 0", "small")]
+    for name, width, kind in SECTORS:
+        parts += [box(x, top, width, BOX, kind), label(x + width / 2, top + 20, name, anchor="middle")]
+        x += width
+    begin = x - SECTORS[-1][1]
+    parts += [label(begin, top - 8, "size - 512", "small", "middle"), label(x, top - 8, "size", "small", "end")]
+    under, left, slots = top + 96, EDGE, 0
+    width = 512 * METADATA_SCALE
+    parts.append('<path d="M%.0f %d L%d %d M%.0f %d L%.0f %d"/>' % (begin, top + BOX, left, under, x, top + BOX,
+                                                                   left + width, under))
+    for number, (name, at, size) in enumerate(fields()):
+        if name == "mkeys":
+            name, slots = "key slot %d" % slots, slots + 1
+        start, room = left + at * METADATA_SCALE, size * METADATA_SCALE
+        parts.append(strip_of(start, under, room, "law" if slots and "slot" in name else "code"))
+        if room > 60:
+            parts += [label(start + room / 2, under + 20, name, "small", "middle"),
+                      label(start, under + 46, "%d" % at, "small faint", "middle")]
+        else:
+            y = under + 90 - number % 2 * 20
+            parts += ['<path d="M%.1f %d V%d"/>' % (start + room / 2, under + 30, y - 12),
+                      label(start + room / 2 - 4, y, "%s, from %d" % (name, at), "small",
+                            "start" if at < 256 else "end")]
+    return picture(EDGE * 2 + x - EDGE, under + 108, "An image, and its metadata", parts)
+
+
 # ---- sealed sectors, to scale
 
 SIZE, SCALE = 4096, 0.186
 NAMES = {"Off": "Without authentication", "Sha256": "HMAC/SHA256", "Sha384": "HMAC/SHA384", "Sha512": "HMAC/SHA512"}
 
 
+def strip_of(x, y, width, kind):
+    return '<rect x="%.1f" y="%d" width="%.1f" height="30" class="%s"/>' % (x, y, width, kind)
+
+
 def strip(x, y, size, kind):
-    return '<rect x="%.1f" y="%d" width="%.1f" height="30" class="%s"/>' % (EDGE + x * SCALE, y, size * SCALE, kind)
+    return strip_of(EDGE + x * SCALE, y, size * SCALE, kind)
 
 
 def sealed(code, tag, top):
@@ -128,4 +185,4 @@ def sectors():
 
 
 if __name__ == "__main__":
-    sys.exit(made([("keys.svg", keys), ("sectors.svg", sectors)], sys.argv[1:]))
+    sys.exit(made([("image.svg", image), ("keys.svg", keys), ("sectors.svg", sectors)], sys.argv[1:]))

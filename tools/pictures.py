@@ -184,7 +184,7 @@ def legend_of_speed(left):
     parts = [label(EDGE, 32, "The whole program beside C over OpenSSL, MB/s by processor time", "title"),
              '<rect x="%d" y="50" width="26" height="14" class="bar"/>' % EDGE, label(EDGE + 34, 62, "geli")]
     for number, (text, kind, shape) in enumerate(SIDES):
-        x, y = left + number % 2 * 300, 57 + number // 2 * 22
+        x, y = left + number % 2 * 260, 57 + number // 2 * 22
         parts += [mark(x, y, kind, shape), label(x + 14, y + 5, text)]
     note = "geli and the circles do AES without the processor's instructions for it, the squares with them."
     return parts + [label(EDGE, 106, note, "faint small")]
@@ -277,8 +277,8 @@ def crash():
     parts = [label(EDGE, 32, "Power fails while a flushed sector is written over", "title"),
              label(EDGE, 54, "4,096 bytes with HMAC/SHA256: nine units, a device write each. What read says after it:",
                    "faint")]
-    for x, kind, text in ((left, "code", "as flushed"), (left + 150, "law", "as written later"),
-                          (left + 340, "mark", "a named fault")):
+    for x, kind, text in ((EDGE, "code", "as flushed"), (150, "law", "as written later"),
+                          (316, "mark", "a named fault"), (464, "test", "not returned with that fault")):
         parts += [box(x, 68, 26, 16, kind), label(x + 34, 81, text, "small")]
     for number, (moment, torn, found) in enumerate(rows):
         y = top + number * CRASH_ROW

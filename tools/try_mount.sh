@@ -588,6 +588,7 @@ case_full() { # a full disk, that gets room again or not
     head -c 6M /dev/urandom >six
     GELI_MOUNTS=$folder/mounts "$mount" -k key -j pass small/s.img files 2>notes
     for at in 1 2 3 4; do timeout 200 cp six "files/p$at"; done 2>copies
+    sleep 8 # until the keeper has had the kernel write what it keeps
     command mount -o remount,size=200M small
     for at in 1 2 3; do timeout 200 cp six "files/q$at"; done 2>copies
     down
@@ -986,14 +987,14 @@ case_programs() { # what the programs behind it say is shown
     fresh
     if unshare -m mount --bind /dev/null /dev/fuse 2>notes; then
         SECONDS=0
-        says "a nbdfuse that can't begin" test "$(unshare -m --propagation private sh -c \
+        says "a bridge that can't begin" test "$(unshare -m --propagation private sh -c \
             'mount --bind /dev/null /dev/fuse && GELI_MOUNTS=$1/mounts exec "$2" -k key -j pass m.img files 2>notes' \
             - "$folder" "$mount"; echo $?)" = 1
-        says "  tells why" told 'nbdfuse: .*mount failed'
+        says "  tells why" told 'nbd[a-z_.]*: .*mount failed'
         says "  at once" test $SECONDS -lt 10
         says "  and nothing is left" nothing_left
     else
-        echo "not tried: a nbdfuse that can't begin (no unshare)"
+        echo "not tried: a bridge that can't begin (no unshare)"
     fi
     mkdir -p bin
     cat >bin/fusermount3 <<EOS

@@ -83,10 +83,12 @@ def server(words, ended):
 
 
 class Mounted:
-    """A row of mountinfo (proc(5)): the number of the mount, as 0:52, its folder, its type, and what it is of."""
+    """A row of mountinfo (proc(5)): its place there, the number of the mount, as 0:52, its folder, its type, and what
+    it is of."""
 
     def __init__(self, row):
         fields, _, rest = row.partition(" - ")
+        self.row = fields.split(" ")[0]
         self.number, self.folder = fields.split(" ")[2], self.plain(fields.split(" ")[4])
         self.kind, self.source = map(self.plain, rest.split(" ")[:2])
 
@@ -117,15 +119,25 @@ def processes():
 
 
 def uses(process, folder):
-    """Whether a process is in a folder, or has a file in it open."""
-    names = [f"/proc/{process}/cwd", f"/proc/{process}/root"]
+    """Whether a process is in what is mounted on a folder, or has a file in it open."""
+    names = ["cwd", "root"]
     with contextlib.suppress(OSError):
-        names += [f"/proc/{process}/fd/{number}" for number in os.listdir(f"/proc/{process}/fd")]
+        names += [f"fd/{number}" for number in os.listdir(f"/proc/{process}/fd")]
     for name in names:
         with contextlib.suppress(OSError):
-            if f"{os.readlink(name)}/".startswith(f"{folder}/"):
+            is_in = f"{os.readlink(f'/proc/{process}/{name}')}/".startswith(f"{folder}/")
+            if is_in and not is_below(process, name, folder):
                 return True
     return False
+
+
+def is_below(process, name, folder):
+    """Whether an open file is of what lies below all that is mounted on the folder, as the folder that the keeper has."""
+    if not name.startswith("fd/"):
+        return False
+    info = Path(f"/proc/{process}/fdinfo/{name.removeprefix('fd/')}").read_text(encoding="ascii")
+    row = re.search(r"^mnt_id:\s*(\d+)$", info, re.MULTILINE)[1]
+    return row not in [it.row for it in mounts(process) if it.folder == str(folder)]
 
 
 def has_elsewhere(process, number):

@@ -43,7 +43,7 @@ import time
 from pathlib import Path
 
 sys.path.insert(0, os.path.dirname(os.path.abspath(__file__)))  # which python3 -I leaves out
-from lib import (REFUSED, Failed, Identity, Refusals, called, close_others, descriptors_of, files_of, holder_of, is_new,
+from lib import (REFUSED, Failed, Identity, Refusals, close_others, descriptors_of, files_of, holder_of, is_new,
                  is_zeros, name_of, note, say)
 
 SIGNALS = {signal.SIGTERM, signal.SIGINT, signal.SIGHUP}
@@ -596,7 +596,7 @@ class Keeper:
     def must_be_readable(self):
         if not self.is_readable():
             raise Failed("no filesystem is known in it, and its first sectors can't be read: they were never written,"
-                         f" or are damaged ({called('after-a-power-failure')} says which). Don't make one over it: copy"
+                         " or are damaged (vuthrel check says which). Don't make one over it: copy"
                          " it to another disk first, and then give -c, which takes an ext4's second superblock, if it"
                          " has one (from 128 MiB on)")
 
@@ -850,7 +850,7 @@ def keep(words, pipe):
     held = os.open(state.path, os.O_RDONLY)  # what cleans /tmp leaves a folder alone that is locked
     fcntl.flock(held, fcntl.LOCK_SH)
     state.put(state.keeper, str(os.getpid()))
-    is_file = files_of(words["name"]) == [words["name"]]
+    is_file = files_of(words["name"]) == (words["name"],)
     state.put(state.of, json.dumps([words["folder"], os.path.join(words["here"] * is_file, words["name"])]))
     is_told = True
 

@@ -1,14 +1,13 @@
 # lib.sh: what the scripts of this folder share. They read it with `.`; alone it does nothing.
 #
 # GELI and GELI_NBD name the programs, `geli` and `geli-nbd` on the path if they aren't set. The scripts need bash 4.4
-# or later, and python3, which holds the two ends of a `geli script` (lib.py).
+# or later, and python3.
 # shellcheck shell=bash
 
 GELI=${GELI:-geli}
 GELI_NBD=${GELI_NBD:-geli-nbd}
 library=$(dirname -- "$(readlink -f -- "${BASH_SOURCE[0]}")")
 program=${GELI_CALLED_AS:-${0##*/}} # as another name starts it
-installed=${GELI_CALLED_AS:+yes}
 unset GELI_CALLED_AS
 umask 077 # every file that is made here is the caller's alone
 ulimit -c 0 # a core would have keys
@@ -25,8 +24,12 @@ fail() {
     exit 1
 }
 
-# called NAME: how another of these scripts is called, NAME.sh, or geli-NAME where they are installed.
-called() { if [ -n "$installed" ]; then printf 'geli-%s' "${1#geli-}"; else printf '%s.sh' "$1"; fi; }
+# go_on_as WORD OPTION...: goes on as `vuthrel WORD`, in a clone or where it is installed. It says the script's name.
+go_on_as() {
+    local starter=$library/../vuthrel
+    [ -f "$starter" ] || starter=$library/../../bin/vuthrel
+    VUTHREL_CALLED_AS=$program GELI=$GELI GELI_NBD=$GELI_NBD exec "$starter" "$@"
+}
 
 # -h or --help: the head of the script, which says what it does and takes.
 case ${1:-} in
@@ -177,39 +180,6 @@ image_is_there() {
     done
 }
 
-# absent NAME...: nothing is overwritten.
-absent() {
-    local name
-    for name in "$@"; do
-        if [ -e "$name" ] || [ -L "$name" ]; then fail "'$name' is there already: it is left alone"; fi
-    done
-}
-
-# shellcheck disable=SC2034 # what sets a name for the scripts
-# size_of WORD: sets `size` to the number of bytes that the word says, as 83886080, 80M or 2G (powers of 1024). It ends
-# below 2^53, as geli's own sizes do.
-size_of() {
-    local -A units=([K]=10 [M]=20 [G]=30 [T]=40)
-    local -i shift=0
-    [[ $1 =~ ^(0|[1-9][0-9]{0,15})([KMGT]?)$ ]] || fail "'$1' is no number of bytes: such as 83886080, 80M or 2G"
-    if [ -n "${BASH_REMATCH[2]}" ]; then shift=${units[${BASH_REMATCH[2]}]}; fi
-    ((BASH_REMATCH[1] < 1 << (53 - shift))) || fail "'$1' is more than an image can have"
-    size=$((BASH_REMATCH[1] << shift))
-}
-
-# lengthen FILE SIZE [allocated]: makes the file so long; its new part takes no space on the disk before it is written,
-# unless it is to be allocated.
-lengthen() {
-    if [ "${3:-}" = allocated ]; then
-        fallocate -l "$2" -- "$1" || fail "there is no room for '$1'"
-        return
-    fi
-    truncate -s "$2" -- "$1" || fail "there is no room for '$1'"
-    local -i room
-    room=$(df --output=avail -B1 -- "$1" | tail -n 1)
-    ((room >= $2)) || note "note: '$1' may come to take $2 bytes, and its disk has room for $room (-f takes all now)"
-}
-
 # The programs that are used here: geli, python3 and these.
 need() {
     local name package
@@ -228,7 +198,6 @@ need() {
             fusermount3) package='Debian: fuse3' ;;
             fuse2fs) package='Debian: fuse2fs' ;;
             mke2fs) package='Debian: e2fsprogs, in /sbin' ;;
-            wipefs | losetup) package='Debian: util-linux, in /sbin' ;;
             grub-mount) package='Debian: grub-common' ;;
             "$GELI") package='GELI names the geli to use' ;;
             "$GELI_NBD") package='GELI_NBD names the geli-nbd to use' ;;
@@ -237,53 +206,6 @@ need() {
         fail "the program '$name' isn't there${package:+ ($package)}"
     done
 }
-
-# nbdcopy_over: prints the program that serves nbdcopy, if both are installed.
-nbdcopy_over() {
-    if command -v nbdcopy >/dev/null && command -v "$GELI_NBD" >/dev/null; then
-        # The launcher of a clone builds the program now, so that this can be said.
-        if "$GELI_NBD" --version </dev/null >/dev/null; then command -v "$GELI_NBD"; fi
-    fi
-}
-
-# The refusal in `reply`, and its cause as far as it can be seen at the image.
-reply=''
-told() { python3 -I -B "$library/lib.py" "${reply##*$'\n'}" "$image"; }
-
-# refused IMAGE: prints the refusal of metadata that nobody can attach, by any key, and answers 1. No key is derived for
-# that: a key file that is any file is tried, without a passphrase.
-refused() {
-    local answer
-    answer=$("$GELI" attach -C -p -k "$library/refusals.txt" "$1") || :
-    [[ ! $answer =~ ^error\ ([5-9]|1[0-3])\  ]] || { printf '%s\n' "$answer" && return 1; }
-}
-
-LARGEST_SECTOR=65536 # bytes, of which a backup that FreeBSD made has as many as a sector of its disk
-# is_backup FILE: whether a file begins as a backup of metadata does, and isn't too long for one.
-is_backup() {
-    [ -f "$1" ] && (($(stat -Lc %s -- "$1") <= LARGEST_SECTOR)) && cmp -s -n 9 -- "$1" <(printf 'GEOM::ELI')
-}
-
-# image_of_backup FILE: sets `trial` to an image of zeros that ends with these metadata, as large as they say: it takes
-# no space. `reply` is what geli prints of them; the status is 1 if that is a refusal.
-image_of_backup() {
-    local bytes
-    private_folder
-    trial=$private/trial
-    { head -c 512 /dev/zero && head -c 511 -- "$1"; } >"$trial"
-    truncate -s 1024 -- "$trial"
-    reply=$("$GELI" dump "$trial") || return 1
-    bytes=$(sed -n 's/^provsize: //p' <<<"$reply")
-    if [[ $bytes =~ ^[0-9]{4,15}$ ]] && ((bytes >= 1024)); then
-        tail -c 512 -- "$trial" >"$trial.last"
-        : >"$trial"
-        truncate -s $((bytes - 512)) -- "$trial" || fail "no image of $bytes bytes can be made in '$private'"
-        cat -- "$trial.last" >>"$trial"
-    fi
-}
-
-# slow WHAT: says at a terminal what may take a while now.
-slow() { if [ -t 2 ]; then note "$1 ..."; fi; }
 
 has_terminal() { { : </dev/tty; } 2>/dev/null; }
 
@@ -310,23 +232,10 @@ stays() {
 # What looks at a passphrase, or asks for one, does it in a shell of its own that ends with that: so the script's own
 # memory never has it, for however long the script runs.
 
-# new_passphrase NAME: sets `stays` to a passphrase file that a new key is to be made of. An empty passphrase is
-# refused.
-new_passphrase() {
-    stays "$1"
-    (
-        IFS= read -r line <"$stays" || [ -n "$line" ] || fail "the passphrase file '$1' is empty"
-        case $line in
-            '') fail "the first line of the passphrase file '$1' is empty" ;;
-            *$'\r') note "note: the passphrase in '$1' ends with a carriage return, which counts" ;;
-        esac
-    ) || exit
-}
-
-# ask_passphrase WHAT [twice]: asks at the terminal, and sets `secret` to a file whose first line the answer is.
+# ask_passphrase WHAT: asks at the terminal, and sets `secret` to a file whose first line the answer is.
 ask_passphrase() {
     local -i status=0
-    has_terminal || fail "no terminal to ask for the $1: name a file whose first line it is, by -j (a new one: -J)"
+    has_terminal || fail "no terminal to ask for the $1: name a file whose first line it is, by -j"
     secret_file
     trap '' TSTP # one that was stopped here would go on with what is typed shown
     (
@@ -334,11 +243,6 @@ ask_passphrase() {
         IFS= read -r -s -p "$1: " first </dev/tty || fail 'nothing was typed'
         printf '\n' >/dev/tty
         [ -n "$first" ] || fail "the $1 is empty"
-        if [ "${2:-}" = twice ]; then
-            IFS= read -r -s -p "$1, again: " second </dev/tty || fail 'nothing was typed'
-            printf '\n' >/dev/tty
-            [ "$first" = "$second" ] || fail 'the two differ, nothing was done'
-        fi
         printf '%s\n' "$first" >"$secret"
     ) &
     asker=$! # a signal to this shell is heard meanwhile
@@ -378,10 +282,3 @@ tell_iterations() {
         "each try may take $((iterations / MANY)) minutes and more"
 }
 
-# The python3 program on standard input, with these words and lib.py. As everywhere here, -I keeps python3 from looking
-# for modules in the caller's folder.
-python_part() {
-    GELI_INSTALLED=$installed python3 -I -B -c \
-        'import sys; sys.path.insert(0, sys.argv.pop(1)); exec(compile(sys.stdin.read(), f"<{sys.argv[1]}>", "exec"))' \
-        "$library" "$program" "$GELI" "$@"
-}

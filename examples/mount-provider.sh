@@ -66,7 +66,7 @@ options_agree() {
 # keeper WORD...: goes on in python3. No signal ends that before it can hear them.
 keeper() {
     trap '' INT TERM HUP
-    GELI_INSTALLED=$installed exec env --block-signal=INT,TERM,HUP python3 -I -B "$library/keep_mount.py" "$program" "$@"
+    exec env --block-signal=INT,TERM,HUP python3 -I -B "$library/keep_mount.py" "$program" "$@"
 }
 
 # Says by how much the disk could fall short, of an image that takes space as it is written.

@@ -39,7 +39,7 @@ BYTES = {"README.md": 7168, "docs/PERFORMANCE.md": 16384, "docs/DECISIONS.md": 1
 
 PAGE = re.compile(r"README\.md|docs/[^/]*\.md|(?:crates/[^/]*|examples|packaging)/README\.md")
 NAME = re.compile(r"[A-Za-z_]\w*(?:(?:::|/)[A-Za-z_]\w*)*(?:\(\))?")
-PATH = re.compile(r"(?<![\w./-])(?:crates|docs|tools|specs|src|proofs|must-fail|examples|man|bench|completions)/"
+PATH = re.compile(r"(?<![\w./-])(?:crates|docs|tools|specs|src|proofs|must-fail|examples|kit|man|bench|completions)/"
                   r"[\w./-]*\w")
 CODE = re.compile(r"`([^`]+)`")
 ITEM = re.compile(r"\s*(?:[-*]|\d+\.) ")

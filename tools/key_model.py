@@ -1,11 +1,17 @@
-"""User keys, wrapped master keys and metadata sectors by geli(8) and g_eli.h, for the models of this folder."""
-import hashlib
-import hmac
+"""User keys, wrapped master keys and metadata sectors by geli(8) and g_eli.h, for the models of this folder.
+
+What needs no cipher is in kit/vuthrel/metadata.py, whose tests have vectors of their own.
+"""
+import os
 import platform
-import struct
+import sys
 
 import cryptography
 from cryptography.hazmat.primitives.ciphers import Cipher, algorithms, modes
+
+sys.path.insert(0, os.path.join(os.path.dirname(os.path.realpath(__file__)), "..", "kit"))
+from vuthrel.metadata import Metadata, hmac512
+from vuthrel.metadata import user_key as user_key_with
 
 MADE_WITH = f"hashlib and hmac of Python {platform.python_version()} and cryptography {cryptography.__version__}"
 
@@ -14,18 +20,8 @@ SALT = bytes(range(0x80, 0xC0))
 MASTER = bytes(range(128))
 
 
-def hmac512(key, message):
-    return hmac.digest(key, message, "sha512")
-
-
 def user_key(keyfiles, passphrase, iterations):
-    if passphrase is None:
-        part = b""
-    elif iterations > 0:
-        part = hashlib.pbkdf2_hmac("sha512", passphrase, SALT, iterations, 64)
-    else:
-        part = SALT + passphrase
-    return hmac512(b"", keyfiles + part)
+    return user_key_with(keyfiles, passphrase, SALT, iterations)
 
 
 def wrapped(key, keylen):
@@ -37,7 +33,4 @@ def wrapped(key, keylen):
 
 def sector(flags, ealgo, keylen, aalgo, provsize, sectorsize, keys, iterations, slots):
     """The sector of metadata of version 7."""
-    head = struct.pack("<16sIIHHHQIBi", b"GEOM::ELI", 7, flags, ealgo, keylen, aalgo, provsize, sectorsize, keys, iterations)
-    meta = head + SALT + slots
-    assert len(meta) == 495
-    return meta + hashlib.md5(meta).digest() + b"\0"
+    return Metadata(7, flags, ealgo, keylen, aalgo, provsize, sectorsize, keys, iterations, SALT, slots).sector()

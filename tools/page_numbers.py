@@ -122,7 +122,7 @@ RULES = [
     ("man/geli.8", r"not measured: the default is #\.", lambda: iterations(False)),
     ("docs/FREEBSD.md", r"`-i`, by default #;", lambda: iterations(True)),
     ("docs/FREEBSD.md", r"make-provider\.sh takes #\.(?=\s)",
-     lambda: [f"{int(first('examples/make-provider.sh', r'iterations=([0-9]+)')[0]):,}"]),
+     lambda: [f"{int(first('kit/vuthrel/cli.py', r'ITERATIONS = ([0-9]+)')[0]):,}"]),
     ("README.md", r"\[# verbs\]", lambda: [missing_verbs()]),
     ("README.md", r"# MB/s written, where C over OpenSSL writes # without AES instructions and # with them",
      lambda: [speed(0), speed(1), speed(3)]),

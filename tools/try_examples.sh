@@ -70,7 +70,7 @@ says "make-provider.sh overwrites nothing" test ! "$("$make" -i 100 -J pass 1048
 says "make-provider.sh makes an authenticated provider" "$make" -a -i 100 -J pass 262144 b.img key b.backup 2>notes
 
 says "  every sector of which can be read" grep -q 'of 4096 bytes, 0 of them unreadable' <("$top/examples/after-a-power-failure.sh" -k key -j pass b.img 2>notes)
-says "  which says that it didn't look at the filesystem" grep -q '^The filesystem in it was not looked at: mount' \
+says "  which says that it didn't look at the filesystem" grep -q '^The filesystem in it was not looked at: vuthrel mount' \
     <("$top/examples/after-a-power-failure.sh" -k key -j pass b.img 2>notes)
 says "  of a size such as 1M" test "$("$make" -i 100 -J pass 1M m.img key m.backup 2>notes; stat -c %s m.img)" = 1048576
 says "  and of no other" test "$("$make" -i 100 -J pass 1MB n.img key n.backup 2>&1 | grep -c 'no number of bytes')" = 1 -a ! -e n.img
@@ -418,7 +418,7 @@ fi
 says "what grow-provider.sh leaves" test "$(broken "$grow" -k key -j pass 512K half.img half2.backup 2>&1 | grep -c 'Give this again, with -s 262144')" = 1
 says "  and it goes on" "$grow" -s 262144 -k key -j pass 512K half.img half2.backup 2>notes
 says "  to the end" grep -q ', 0 of them unreadable' <("$look" -k key -j pass half.img 2>notes)
-says "a copy says how its bytes come back" grep -q '^copy-out.sh -b 13 ' <("$in" -k key -j pass pass a.img 2>&1)
+says "a copy says how its bytes come back" grep -q '^vuthrel read-image -b 13 ' <("$in" -k key -j pass pass a.img 2>&1)
 
 # What a provider is, and what is wrong with words.
 info=$top/examples/geli-info.sh why=$top/examples/why.sh
@@ -433,7 +433,7 @@ says "  and where there is none" test "$("$info" pass 2>&1 | grep -c '^geli-info
 says "why.sh says what is wrong with words" test "$("$why" init -s 4k -P -K key a.img | head -n 1)" = "word 3, '4k': this is no decimal number, or it is out of its bounds (write 4096 and not 4k)"
 says "  and that nothing is" "$why" kill 'a name.img' >reply
 says "  and runs nothing" "$GELI" attach -C -k key -j pass half.img >reply
-says "  and that an attaching doesn't stay" grep -q 'nothing stays attached.*mount-provider.sh' \
+says "  and that an attaching doesn't stay" grep -q 'nothing stays attached.*vuthrel mount' \
     <("$why" attach -p -k a b)
 says "why.sh says what a refusal is" grep -q "^15 WrongKey: No slot opens" <("$why" error 15 WrongKey)
 says "  each that geli(8) has" test "$(for at in {1..48}; do "$why" error $at >reply && echo; done | wc -l)" = 48
@@ -801,9 +801,9 @@ EOF
 shown() { python3 terminal.py "$@"; }
 cat >slow.py <<EOF
 import sys, time
-sys.path.insert(0, "$top/examples")
-import lib
-progress = lib.Progress(64 << 20)
+sys.path.insert(0, "$top/kit")
+from vuthrel.text import Progress
+progress = Progress(64 << 20)
 time.sleep(1.1)
 progress.at(16 << 20)
 progress.end("67108864 bytes")
@@ -847,19 +847,16 @@ PATH=$PATH:/usr/sbin:/sbin
 here=$folder/careful
 copy_in=$top/examples/copy-in.sh restore=$top/examples/restore-provider.sh
 # changed FIELD=VALUE...: makes changed.img, as a.img with other fields in its metadata, whose MD5 is right.
-cat >change.py <<'EOS'
-import hashlib, struct, sys
-PLACES = {"flags": (20, "<I"), "ealgo": (24, "<H"), "provsize": (30, "<Q"), "sectorsize": (38, "<I"), "iterations": (43, "<i")}
+cat >change.py <<EOS
+import dataclasses, sys
+sys.path.insert(0, "$top/kit")
+from vuthrel.metadata import Metadata
 with open(sys.argv[1], "r+b") as file:
     file.seek(-512, 2)
-    sector = bytearray(file.read(512))
-    for word in sys.argv[2:]:
-        name, value = word.split("=")
-        at, kind = PLACES[name]
-        struct.pack_into(kind, sector, at, int(value, 0))
-    sector[495:511] = hashlib.md5(sector[:495]).digest()
+    found = Metadata.of_sector(file.read(512))
+    fields = dict(word.split("=") for word in sys.argv[2:])
     file.seek(-512, 2)
-    file.write(sector)
+    file.write(dataclasses.replace(found, **{name: int(value, 0) for name, value in fields.items()}).sector())
 EOS
 changed() { cp a.img changed.img && python3 change.py changed.img "$@"; }
 esc=$'\e'

@@ -825,7 +825,7 @@ case_damaged() { # a filesystem that is damaged, or was mounted by a kernel that
     fi
     before=$(up m.img; df --output=size files | tail -n 1; down)
     "$grow" -k key -j pass 60M m.img grown.backup 2>notes
-    says "grow-provider.sh says that the filesystem doesn't grow" told 'mount-provider.sh -g'
+    says "grow-provider.sh says that the filesystem doesn't grow" told 'vuthrel mount -g'
     says "the filesystem in a grown provider grows by -g" up -g m.img
     says "  indeed" test "$(df --output=size files | tail -n 1)" -gt $((before * 3 / 2))
     says "  and it ends" down

@@ -4,9 +4,9 @@
     tools/verbs.py [--check | --names]
 
 In COMMANDS of the page each command stands with its words, and is marked if it is of use in scripts alone. Without an
-option this writes what follows from them into completions/geli.bash and examples/why.sh, and what DIAGNOSTICS says of
-each refusal into examples/refusals.txt, between two comment lines: these files stand alone once installed, so they
-can't ask the page. With --check nothing is written, and each file that would change is named. --names prints what the
+option this writes what follows from them into completions/geli.bash and kit/vuthrel/refusals.txt, and what DIAGNOSTICS
+says of each refusal into the latter, between two comment lines: these files stand alone once installed, so they can't
+ask the page. With --check nothing is written, and each file that would change is named. --names prints what the
 first word behind `geli` may be.
 
 It also says which verb COMMANDS has and the README's table of commands lacks, or the other way round, and which word
@@ -17,7 +17,6 @@ Other tools take the words from `verbs_of_page`.
 import argparse
 import re
 import sys
-import textwrap
 from collections import namedtuple
 from pathlib import Path
 
@@ -151,15 +150,12 @@ _geli_operand() {{
 """
 
 
-def array(name, words):
-    """An array of bash."""
-    return f"{name}=(\n{textwrap.indent(textwrap.fill(' '.join(words), 116), '    ')}\n)\n"
-
-
 def lists():
+    """The verbs that are of use as single commands, and those that are of use in a script alone."""
     verbs = verbs_of_page()
     for_scripts = [name for name in sorted(verbs) if verbs[name].is_for_scripts]
-    return array("verbs", [name for name in names() if name not in for_scripts]) + array("for_scripts", for_scripts)
+    alone = [name for name in names() if name not in for_scripts]
+    return f"alone: {' '.join(alone)}\nin-scripts: {' '.join(for_scripts)}\n"
 
 
 # A macro of mdoc(7) that a line of text may have, and how its words are written. Others are read over.
@@ -196,7 +192,7 @@ def refusals():
 
 
 # The files with a printed part.
-PRINTED = {"completions/geli.bash": completions, "examples/why.sh": lists, "examples/refusals.txt": refusals}
+PRINTED = {"completions/geli.bash": completions, "kit/vuthrel/refusals.txt": lambda: lists() + refusals()}
 
 
 def with_part(file, part):

@@ -184,3 +184,17 @@ fn each_reply_is_given_before_more_is_taken(rt: HostRuntime) -> Result<(), Fail>
     }
     Ok(())
 }
+
+// A client that goes away amid its request, of 28 bytes, is asked once more, and not again: on a terminal each end is
+// one that somebody types.
+#[test]
+fn the_end_is_asked_for_once(rt: HostRuntime) -> Result<(), Fail> {
+    let alloc = rt.alloc();
+    let mut place = Place::new(alloc)?;
+    let mut talk = Client::ByName.talk(alloc)?;
+    talk.said.truncate(100);
+    let due = Client::ByName.due(alloc, talk.said.len())?;
+    let seen = seen(alloc, &mut place, &talk, due, false)?;
+    assert_eq!(&rt; seen, (false, 101));
+    Ok(())
+}

@@ -301,7 +301,7 @@ EOS
 }
 
 # goes_on FILE: writes a file in files/ every 20 ms, whatever becomes of the folder
-goes_on() { for _ in {1..150}; do echo plain >"files/w$RANDOM"; sleep 0.02; done 2>"$1"; }
+goes_on() { LC_ALL=C && for _ in {1..150}; do echo plain >"files/w$RANDOM"; sleep 0.02; done 2>"$1"; }
 below() { unshare -m sh -c 'umount -l files 2>/dev/null; ls -A files'; } # what is in the folder below
 case_below() { # who goes on after the end of a mount writes nothing in the folder below it
     local who wrong=0 at writer

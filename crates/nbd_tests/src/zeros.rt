@@ -13,6 +13,28 @@ use std::test::Fail;
 
 // ---- pieces of 65,536 bytes
 
+// Writes zeros to a range from this room.
+fn zeroed_from<D: Disk>(
+    provider: &mut Provider<D>,
+    room: &mut [u8],
+    edge: &mut [u8],
+    range: &ByteRange,
+    flush: bool,
+) -> Result<Written, Fail> {
+    if room.len() < 65_536 || edge.len() != 65_536 {
+        return Err(Fail::from("no room"));
+    }
+    if provider.read_only() || range.count == 0 {
+        return Err(Fail::from("no zeros"));
+    }
+    if !has_range(provider, range) {
+        return Err(Fail::from("no such range"));
+    }
+    let size = provider.sector_size() as usize;
+    let cover = cover_of(range.offset, range.count as usize, size);
+    Ok(zero_range(provider, room, edge, range, &cover, flush))
+}
+
 // Writes zeros to a range by pieces of 65,536 bytes.
 fn zeroed<D: Disk>(
     alloc: Global,
@@ -22,15 +44,7 @@ fn zeroed<D: Disk>(
 ) -> Result<Written, Fail> {
     let mut room = vec![in alloc; 0x25; 65_536]?;
     let mut edge = vec![in alloc; 0x25; 65_536]?;
-    if room.len() != 65_536 || edge.len() != 65_536 {
-        return Err(Fail::from("no room"));
-    }
-    if provider.read_only() || range.count == 0 || !has_range(provider, range) {
-        return Err(Fail::from("no such range"));
-    }
-    let size = provider.sector_size() as usize;
-    let cover = cover_of(range.offset, range.count as usize, size);
-    Ok(zero_range(provider, &mut room, &mut edge, range, &cover, flush))
+    zeroed_from(provider, &mut room, &mut edge, range, flush)
 }
 
 // All bytes of a provider with 262,144.
@@ -77,38 +91,58 @@ const RANGES: [(u64, u32); 8] = [
     (262_143, 1),
 ];
 
-// Just the bytes of each range become zeros, its sectors are written once each in ascending order, and one flush comes
-// after all of them.
+// The device sectors of a range, in logical sectors of this size: the first, and how many there are.
+fn device_sectors(range: &ByteRange, size: u64) -> (u64, usize) {
+    if size == 0 {
+        return (0, 0);
+    }
+    let end = range.offset.saturating_add(u64::from(range.count));
+    let first = range.offset / size;
+    let last = end.saturating_sub(1) / size;
+    let units = size / 512;
+    let count = last.saturating_sub(first).saturating_add(1);
+    (
+        first.saturating_mul(units),
+        count.saturating_mul(units) as usize,
+    )
+}
+
+// Whether just the bytes of a range become zeros, its sectors are written once each in ascending order, and a flush
+// comes after all of them where one is asked for.
+fn are_zeros_written(
+    alloc: Global,
+    size: u32,
+    range: &ByteRange,
+    flush: bool,
+) -> Result<bool, Fail> {
+    let mut disk = MemDisk::new(alloc, 513, 1024)?;
+    let meta = made(alloc, &mut disk, Auth::Off, size)?;
+    let mut provider = attached(alloc, disk, &meta, false)?;
+    let before = all_bytes(alloc, &mut provider)?;
+    let written = zeroed(alloc, &mut provider, range, flush)?;
+    let after = all_bytes(alloc, &mut provider)?;
+    let (first, count) = device_sectors(range, u64::from(size));
+    let disk = provider.withdraw();
+    let events = disk.history().get(MADE..).unwrap_or(&[]);
+    Ok(
+        written == Written::Whole
+            && is_zeroed(&before, &after, range)
+            && are_writes(events, first, count, flush),
+    )
+}
+
 #[test]
 fn zeros_by_small_pieces(rt: HostRuntime) -> Result<(), Fail> {
     let alloc = rt.alloc();
     for size in [512, 4096, 65_536] {
         for (offset, count) in RANGES {
             let range = ByteRange { offset, count };
-            let mut disk = MemDisk::new(alloc, 513, 1024)?;
-            let meta = made(alloc, &mut disk, Auth::Off, size)?;
-            let mut provider = attached(alloc, disk, &meta, false)?;
-            let before = all_bytes(alloc, &mut provider)?;
-            let flush = offset % 2 == 1;
-            let written = zeroed(alloc, &mut provider, &range, flush)?;
-            assert_eq!(&rt; written, Written::Whole, "{size} {offset} {count}");
-            let after = all_bytes(alloc, &mut provider)?;
-            assert!(&rt;
-                is_zeroed(&before, &after, &range),
-                "{size} {offset} {count}"
-            );
-            let units = u64::from(size / 512);
-            let first = offset / u64::from(size);
-            let behind = offset
-                .saturating_add(u64::from(count))
-                .div_ceil(u64::from(size));
-            let writes = behind.saturating_sub(first).saturating_mul(units);
-            let disk = provider.withdraw();
-            let events = disk.history().get(MADE..).unwrap_or(&[]);
-            assert!(&rt;
-                are_writes(events, first.saturating_mul(units), writes as usize, flush),
-                "{size} {offset} {count}"
-            );
+            for flush in [false, true] {
+                assert!(&rt;
+                    are_zeros_written(alloc, size, &range, flush)?,
+                    "{size} {offset} {count} {flush}"
+                );
+            }
         }
     }
     Ok(())

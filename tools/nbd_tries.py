@@ -108,6 +108,7 @@ def ask_in_vain(handle, size):
     """Requests that are refused, and change nothing; each first kind is a write, so that the status tells it."""
     assert is_refused(errno.ENOSPC, handle.pwrite, b"x" * 5000, size - 4999)
     assert is_refused(errno.ENOSPC, handle.zero, 100, size)
+    assert is_refused(errno.ENOSPC, handle.zero, (1 << 32) - 1, 1)
     assert is_refused(errno.EINVAL, handle.pread, 5000, size - 4999)
     assert is_refused(errno.EINVAL, handle.pread, 1, 1 << 62)
     assert is_refused(errno.EINVAL, handle.pwrite, b"", 0)
@@ -140,6 +141,26 @@ def full():
     handle.pwrite(b"y" * 65536, 0)
     handle.flush()
     assert handle.pread(65536, 0) == b"y" * 65536
+    assert ended(handle) == 1
+
+
+def many_zeros():
+    """A request for more zeros than 32 MiB, from the second byte to the last but one, and one that passes the end."""
+    with contextlib.suppress(OSError):
+        os.remove("status")
+    handle = connected()
+    size = handle.get_size()
+    assert MOST < size < 1 << 32
+    for at in (0, MOST, size - 4096):
+        handle.pwrite(b"x" * 4096, at)
+    assert is_refused(errno.ENOSPC, handle.zero, size - 1, 2)
+    assert handle.pread(4096, MOST) == b"x" * 4096
+    handle.zero(size - 2, 1, FUA)
+    assert handle.pread(4096, 0) == b"x" + bytes(4095)
+    assert handle.pread(4096, size - 4096) == bytes(4095) + b"x"
+    for at in range(4096, size - 4096, 1 << 20):
+        count = min(1 << 20, size - 4096 - at)
+        assert handle.pread(count, at) == bytes(count), at
     assert ended(handle) == 1
 
 
@@ -354,15 +375,15 @@ class Client:
             return self.malformed()
         if kind == DISC:
             return False
-        payload = self.take(count) if kind == WRITE else bytes(count if kind == ZEROES and count <= MOST else 0)
+        payload = self.take(count) if kind == WRITE else b""
         most = FUA | NO_HOLE if kind == ZEROES else FUA
         if kind in (WRITE, ZEROES):
-            if flags > most or not 0 < count <= MOST:
+            if flags > most or count == 0:
                 self.refuse("write" if kind == WRITE else "zeros", f" at {offset}, invalid request")
             elif offset + count > len(self.model):
                 self.refuse("write" if kind == WRITE else "zeros", f" at {offset}, past the end")
             else:
-                self.model[offset:offset + count] = payload
+                self.model[offset:offset + count] = payload or bytes(count)
                 self.wrote += 1
         elif kind == FLUSH and flags > FUA:
             self.refuse("flush", ", invalid request")

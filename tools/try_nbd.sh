@@ -16,7 +16,7 @@ GELI=$(readlink -f "${GELI:-$top/geli}")
 export GELI GELI_NBD=$program PYTHONPATH=$top/tools PYTHONDONTWRITEBYTECODE=1
 [ $# = 0 ] || shift
 names=("$@")
-[ ${#names[@]} -gt 0 ] || names=(words copies sockets requests qemu files hostile kill full valgrind)
+[ ${#names[@]} -gt 0 ] || names=(words copies zeros sockets requests qemu files hostile kill full valgrind)
 failures=0
 work=$(mktemp -d)
 folder=$work/none
@@ -138,6 +138,35 @@ case_copies() { # nbdinfo, nbdcopy
     says "nbdcopy into a join" nbdcopy --flush data2 "$uri"
     says "  ends well" ended_with 0
     says "  and geli has the same bytes" test "$(sum join:l.img:r.img)" = "$(sha256sum <data2 | cut -d' ' -f1)"
+}
+
+case_zeros() { # requests for more zeros than 32 MiB
+    have nbdcopy qemu-io mke2fs socat || return
+    local uri="nbd+unix:///?socket=$PWD/sock"
+    truncate -s 250M sparse && mke2fs -q -F -t ext4 -E nodiscard sparse
+    provider a.img 251M -s 4096
+    waits -p -k key a.img
+    says "nbdcopy of a sparse file of 250 MB in" nbdcopy --flush sparse "$uri"
+    says "  ends well" ended_with 0
+    waits -r -p -k key a.img
+    says "  and out" nbdcopy "$uri" sparse.out
+    says "  the same bytes, before what the provider has more" cmp -n 262144000 sparse sparse.out
+    ended_with 0
+    rm -f a.img sparse.out
+    provider b.img 3100M -s 4096
+    waits -p -k key b.img
+    says "qemu-io writes 3 GB of zeros" qemu-io -f raw "$uri" -c 'write -P 7 1000 9000' -c 'write -P 7 3000M 9000' \
+        -c 'write -z 2001 3000M' -c 'read -P 7 1000 1001' -c 'read -P 0 2001 8000' -c 'read -P 0 1500M 1M' \
+        -c 'read -P 0 3000M 2001' -c 'read -P 7 3145730001 4999' -c flush >qemu.out
+    says "  with what was written" test "$(grep -c 'Pattern verification failed' qemu.out)" = 0
+    says "  and ends well" ended_with 0
+    rm -f b.img
+    nbdsh -c pass 2>errors || { echo "not tried: libnbd's part of $case (no nbdsh)"; return; }
+    local auth
+    for auth in '' HMAC/SHA256; do
+        provider c.img 80M -s 4096 ${auth:+-a $auth}
+        says "zeros of 79 MB from the second byte on${auth:+, $auth}" tries many_zeros IMAGE=c.img
+    done
 }
 
 case_sockets() { # the page's other ways to a socket

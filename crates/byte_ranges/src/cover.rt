@@ -17,7 +17,7 @@ pub struct Cover {
 /// The logical sectors of this size that a range of bytes lies in.
 pub fn cover_of(offset: u64, bytes: usize, size: usize) -> Cover
     requires some { 0 < bytes }
-    requires few { bytes ≤ 33554432 }
+    requires few { bytes < 2 ^ 32 }
     requires size { 512 ≤ size }
     requires small { size ≤ 65536 }
     ensures first { result.first ≡ offset / size }

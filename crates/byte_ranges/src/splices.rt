@@ -27,7 +27,7 @@ pub enum Written {
 }
 
 // Reads a sector that a write covers in part.
-fn read_edge<D: Disk>(provider: &mut Provider<D>, sector: u64, into: &mut [u8]) -> bool
+pub(crate) fn read_edge<D: Disk>(provider: &mut Provider<D>, sector: u64, into: &mut [u8]) -> bool
     requires size { length into.old ≡ provider.old.keying.sectorsize }
     requires wide { 512 ≤ provider.old.keying.sectorsize }
     requires inside { sector + 1 ≤ media provider.old.keying (D.state provider.old.disk) }
@@ -39,7 +39,7 @@ fn read_edge<D: Disk>(provider: &mut Provider<D>, sector: u64, into: &mut [u8]) 
 }
 
 // Puts the first bytes of a sector before the bytes of a write.
-fn put_front<D: Disk>(
+pub(crate) fn put_front<D: Disk>(
     provider: &mut Provider<D>,
     sectors: &mut [u8],
     edge: &mut [u8],
@@ -131,14 +131,19 @@ fn splice<D: Disk>(
 }
 
 // Each byte is a number below 256.
-fn are_bytes(bytes: &[u8])
+pub(crate) fn are_bytes(bytes: &[u8])
     ensures { AreBytes bytes.now }
 {
     let _ = bytes;
 }
 
 // Writes whole sectors. `false`: the disk failed.
-fn write_sectors<D: Disk>(provider: &mut Provider<D>, first: u64, count: usize, from: &[u8]) -> bool
+pub(crate) fn write_sectors<D: Disk>(
+    provider: &mut Provider<D>,
+    first: u64,
+    count: usize,
+    from: &[u8],
+) -> bool
     requires size { length from.now ≡ count * provider.old.keying.sectorsize }
     requires some { 1 ≤ count }
     requires wide { 512 ≤ provider.old.keying.sectorsize }
@@ -156,7 +161,7 @@ fn write_sectors<D: Disk>(provider: &mut Provider<D>, first: u64, count: usize, 
 }
 
 // Flushes the disk if `wanted` says so.
-fn flush_where<D: Disk>(provider: &mut Provider<D>, wanted: bool) -> Written
+pub(crate) fn flush_where<D: Disk>(provider: &mut Provider<D>, wanted: bool) -> Written
     ensures flushes { FlushesWhere wanted result (D.state provider.old.disk) (D.state provider.new.disk) }
     ensures unasked { (D.state provider.new.disk).reads ≡ (D.state provider.old.disk).reads }
     ensures kept { IsKept provider.old provider.new }

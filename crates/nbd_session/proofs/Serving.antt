@@ -1,5 +1,5 @@
 -- Requests that are taken, served and answered.
-use Rattle.std.proofs.Common.{◌≡◌, ◌∙◌, inl, inr, ℕ, ◌+◌, ◌-◌, ◌%◌, ◌<◌, ◌≤◌, Bool, true, false, Option, List, [], ◌++◌, length, take, drop, None, Some, Result, Err, refl, ap, sym, subst, arith, append-nil, length-drop, length-take-le}
+use Rattle.std.proofs.Common.{◌≡◌, ◌∙◌, inl, inr, ℕ, ◌+◌, ◌-◌, ◌%◌, ◌<◌, ◌≤◌, Bool, true, false, Option, List, [], ◌++◌, length, replicate, take, drop, None, Some, Result, Err, refl, ap, sym, subst, arith, append-nil, length-drop, length-take-le}
 use Rattle.std.proofs.Math.Seq.{drop-append-add, take-append-add, take-append_seam}
 use Rattle.std.proofs.lemmas.List.{drop-drop, drop-take, take-append-le, take-take}
 use Rattle.std.proofs.lemmas.Option.{none-some, same_Some}
@@ -22,7 +22,7 @@ use Rattle.nbd_negotiation.specs.declared.streams.End.{End}
 use Rattle.nbd_negotiation.specs.declared.streams.End.TheVariants.{Closed, ReadFault, WriteFault, Malformed}
 use Rattle.nbd_negotiation.proofs.Filling.{SourceGave-bare, SourceGave-then, fewer, part_filled}
 use Rattle.nbd_session.specs.Denials.{denial_by}
-use Rattle.nbd_session.specs.Requests.{AnswersRead, AnswersWrite, MayRead, MayWrite, ServesKind, write_error, Side, most, range_of}
+use Rattle.nbd_session.specs.Requests.{AnswersRead, AnswersWrite, MayRead, MayWrite, ServesKind, write_error, Side, most, range_of, zeros_of}
 use Rattle.nbd_session.specs.Served.{KindIsServed, ServesNone, ServesRequest, WriteIsCut}
 use Rattle.nbd_session.specs.Stops.{IsCut, LacksBytes, Stops}
 use Rattle.nbd_session.specs.declared.denials.Denial.{Denial}
@@ -118,6 +118,15 @@ pub write_answered : (written : Written) (wanting : Bool) (error : ReplyError) (
 write_answered written wanting error side q room r flush size skip whole old new may same flag is place inside h told =
     subst (λ (e : ReplyError). AnswersWrite side wanting q (take q.length (drop (skipped side.keying (range_of q)) room)) e old new) (sym told)
     (answered written wanting side q (take q.length (drop (skipped side.keying (range_of q)) room)) old new may (write_by written side q room r flush size skip whole old new same flag is place inside h))
+
+-- the reply to zeros, by what became of them
+pub zeros_answered : (written : Written) (wanting : Bool) (error : ReplyError) (side : Side) (q : Request) (r : ByteRange) (flush : Bool) (old new : DiskState) → MayWrite side old q → r ≡ range_of q → flush ≡ has_fua q.flags
+    → WritesRange side.keying r flush (replicate r.count 0) written old new → error ≡ write_error written wanting → AnswersWrite side wanting q (zeros_of q) error old new
+zeros_answered written wanting error side q r flush old new may same flag h told =
+    subst (λ (e : ReplyError). AnswersWrite side wanting q (zeros_of q) e old new) (sym told)
+    (answered written wanting side q (zeros_of q) old new may
+    (subst (λ (b : Bool). WritesRange side.keying (range_of q) b (zeros_of q) written old new) flag
+    (subst (λ (range : ByteRange). WritesRange side.keying range flush (replicate range.count 0) written old new) same h)))
 
 -- ---- one request
 

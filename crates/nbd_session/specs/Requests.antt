@@ -18,7 +18,7 @@ use Rattle.nbd_words.specs.declared.transmission.ReplyError.{ReplyError}
 use Rattle.nbd_words.specs.declared.transmission.ReplyError.TheVariants.{Done, ReadOnly, Failed, Invalid, PassesEnd, NoRoom}
 use Rattle.provider.specs.Attached.{Attached}
 
--- the most bytes of a request
+-- the most bytes of a read, and of a write; a request for zeros may have any number
 abbrev pub most : ℕ
 most = 33554432
 
@@ -37,14 +37,13 @@ HasKnownFlags q = q.flags ≤ flags_limit (request_kind q.code)
 abbrev pub HasUnknownFlags : Request → Type 0
 HasUnknownFlags q = flags_limit (request_kind q.code) < q.flags
 
--- a request of some bytes, but not of too many
+-- a request of some bytes, with flags that it may have
 pub record IsWellFormedRequest (q : Request) : Type 0 where
   pub flags : HasKnownFlags q
   pub some : 0 < q.length
-  pub few : q.length ≤ most
 
 abbrev pub IsIllFormedRequest : Request → Type 0
-IsIllFormedRequest q = HasUnknownFlags q ⊎ (q.length ≡ 0) ⊎ (most < q.length)
+IsIllFormedRequest q = HasUnknownFlags q ⊎ (q.length ≡ 0)
 
 -- the provider has all bytes of a request
 abbrev pub FitsIn : Keying → DiskState → Request → Type 0
@@ -55,11 +54,12 @@ FitsIn k d q = IsInside k d (range_of q)
 -- a read is served
 pub record MayRead (k : Keying) (d : DiskState) (q : Request) : Type 0 where
   pub formed : IsWellFormedRequest q
+  pub few : q.length ≤ most
   pub inside : FitsIn k d q
 
 -- a read is refused
 abbrev pub IsRefusedRead : Keying → DiskState → Request → Type 0
-IsRefusedRead k d q = IsIllFormedRequest q ⊎ (FitsIn k d q → ⊥)
+IsRefusedRead k d q = IsIllFormedRequest q ⊎ (most < q.length) ⊎ (FitsIn k d q → ⊥)
 
 -- the reply to a read, and which bytes it has
 abbrev pub AnswersRead : Side → Request → ReplyError → List ℕ → DiskState → DiskState → Type 0

@@ -9,7 +9,7 @@ ghost use Rattle.nbd_session.specs.Served.{FlushIsAnswered, KindIsServed, ReadIs
 
 use crate::denials::{Denial, DeniedKind, denial_where};
 use block_traits::{Disk, Sink, Source};
-use byte_ranges::{ByteRange, Written, cover_of, has_range, read_range, write_range};
+use byte_ranges::{ByteRange, Written, cover_of, has_range, read_range, write_range, zero_range};
 use nbd_negotiation::{End, fill, give_all};
 use nbd_words::{
     REPLY_HEAD, ReplyError, Request, RequestKind, flags_limit, has_fua, reply_head, request_in,
@@ -17,7 +17,7 @@ use nbd_words::{
 };
 use provider::Provider;
 
-/// The most bytes of a request.
+/// The most bytes of a read, and of a write. A request for zeros may have any number.
 pub const MOST: u32 = 33_554_432;
 
 /// Takes a request and replies to it. It returns whether the session goes on, and what was denied, if this was a write, a
@@ -135,10 +135,7 @@ fn is_well_formed(request: &Request) -> bool
     if !has_known_flags(request) {
         return false;
     }
-    if request.length == 0 {
-        return false;
-    }
-    request.length <= MOST
+    request.length > 0
 }
 
 // Whether a read is one that is served.
@@ -147,6 +144,9 @@ fn may_read<D: Disk>(provider: &Provider<D>, request: &Request) -> bool
     ensures refuses { result ≡ false → IsRefusedRead provider.now.keying (D.state provider.now.disk) request.now }
 {
     if !is_well_formed(request) {
+        return false;
+    }
+    if request.length > MOST {
         return false;
     }
     has_range(provider, &range_of(request))
@@ -260,6 +260,7 @@ fn write<D: Disk>(
 ) -> ReplyError
     requires room { length room.old ≡ 33685520 }
     requires edge { length edge.old ≡ 65536 }
+    requires few { request.now.length ≤ 33554432 }
     ensures writes { AnswersWrite (side_of provider.old) (D.wants_room provider.new.disk) request.now (take request.now.length (drop (skipped provider.old.keying (range_of request.now)) room.old)) result
         (D.state provider.old.disk) (D.state provider.new.disk) }
     ensures kept { IsKept provider.old provider.new }
@@ -279,6 +280,7 @@ fn write_room<D: Disk>(
 ) -> ReplyError
     requires room { length room.old ≡ 33685520 }
     requires edge { length edge.old ≡ 65536 }
+    requires few { request.now.length ≤ 33554432 }
     requires may { MayWrite (side_of provider.old) (D.state provider.old.disk) request.now }
     ensures writes { AnswersWrite (side_of provider.old) (D.wants_room provider.new.disk) request.now (take request.now.length (drop (skipped provider.old.keying (range_of request.now)) room.old)) result
         (D.state provider.old.disk) (D.state provider.new.disk) }
@@ -343,9 +345,26 @@ fn write_zeros<D: Disk>(
     if let Some(error) = write_refusal(provider, request) {
         return error;
     }
-    let length = request.length as usize;
+    write_good_zeros(provider, room, edge, request)
+}
+
+// Writes zeros that are served, in as many pieces as the room makes of them.
+fn write_good_zeros<D: Disk>(
+    provider: &mut Provider<D>,
+    room: &mut [u8],
+    edge: &mut [u8],
+    request: &Request,
+) -> ReplyError
+    requires room { length room.old ≡ 33685520 }
+    requires edge { length edge.old ≡ 65536 }
+    requires may { MayWrite (side_of provider.old) (D.state provider.old.disk) request.now }
+    ensures writes { AnswersWrite (side_of provider.old) (D.wants_room provider.new.disk) request.now (zeros_of request.now) result (D.state provider.old.disk) (D.state provider.new.disk) }
+    ensures kept { IsKept provider.old provider.new }
+{
     let size = provider.sector_size() as usize;
-    let start = (request.offset % size as u64) as usize;
-    room[start..start + length].fill(0);
-    write_room(provider, room, edge, request)
+    let cover = cover_of(request.offset, request.length as usize, size);
+    let flush = has_fua(request.flags);
+    let written = zero_range(provider, room, edge, &range_of(request), &cover, flush);
+    let wanting = provider.wants_room();
+    write_error(written, wanting)
 }

@@ -17,3 +17,5 @@ mod sessions;
 mod vectors;
 #[cfg(test)]
 mod waiting;
+#[cfg(test)]
+mod zeros;

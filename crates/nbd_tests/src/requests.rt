@@ -46,19 +46,19 @@ fn unwritten(alloc: Global, sectorsize: u32) -> Result<Provider<MemDisk>, Fail> 
 
 // Bytes that a client sends.
 #[derive(Drop)]
-struct Client {
-    said: Vec<u8>,
+pub(crate) struct Client {
+    pub(crate) said: Vec<u8>,
 }
 
 impl Client {
-    fn new(alloc: Global) -> Result<Client, Fail> {
+    pub(crate) fn new(alloc: Global) -> Result<Client, Fail> {
         Ok(Client {
             said: Vec::from_slice(alloc, &BEGINS)?,
         })
     }
 
     // A request without bytes.
-    fn asks(
+    pub(crate) fn asks(
         &mut self,
         kind: (u16, u16),
         cookie: u64,
@@ -71,7 +71,13 @@ impl Client {
     }
 
     // A request with so many bytes of one value.
-    fn writes(&mut self, flags: u16, offset: u64, length: u32, byte: u8) -> Result<(), Fail> {
+    pub(crate) fn writes(
+        &mut self,
+        flags: u16,
+        offset: u64,
+        length: u32,
+        byte: u8,
+    ) -> Result<(), Fail> {
         self.asks((WRITE, flags), 1, offset, length)?;
         for _ in 0..length {
             self.said.push(byte)?;
@@ -83,14 +89,14 @@ impl Client {
 // What a client was answered after the negotiation, why the session ended, and the events since the provider was
 // attached.
 #[derive(Drop)]
-struct Answer {
-    end: End,
-    bytes: Vec<u8>,
-    events: usize,
+pub(crate) struct Answer {
+    pub(crate) end: End,
+    pub(crate) bytes: Vec<u8>,
+    pub(crate) events: usize,
     last: bool,
 }
 
-fn answered_to(
+pub(crate) fn answered_to(
     alloc: Global,
     place: &mut Place,
     client: &Client,
@@ -111,14 +117,14 @@ fn answered_to(
 }
 
 // The bytes of a reply without bytes.
-fn reply(error: u8, cookie: u8) -> [u8; 16] {
+pub(crate) fn reply(error: u8, cookie: u8) -> [u8; 16] {
     [
         0x67, 0x44, 0x66, 0x98, 0, 0, 0, error, 0, 0, 0, 0, 0, 0, 0, cookie,
     ]
 }
 
 // Events of making a provider: a flush, its metadata and a flush.
-const MADE: usize = 3;
+pub(crate) const MADE: usize = 3;
 
 const SIZE: u64 = 262_144;
 
@@ -126,7 +132,7 @@ const MOST: u32 = 33_554_432;
 
 // Requests that are refused: whether the export is read-only, the request's code, flags, offset and length, and the
 // number of the error: NBD_EPERM is 1, NBD_EINVAL 22, NBD_ENOSPC 28.
-const REFUSED: [(bool, u16, u16, u64, u32, u8); 32] = [
+const REFUSED: [(bool, u16, u16, u64, u32, u8); 34] = [
     (false, READ, 0, 0, 0, 22),
     (false, READ, 0, 0, MOST + 1, 22),
     (false, READ, 0, 0, 4_294_967_295, 22),
@@ -140,7 +146,9 @@ const REFUSED: [(bool, u16, u16, u64, u32, u8); 32] = [
     (false, WRITE, 0, 0, 0, 22),
     (false, WRITE, 2, 0, 0, 22),
     (false, ZEROES, 0, 0, 0, 22),
-    (false, ZEROES, 0, 0, MOST + 1, 22),
+    (false, ZEROES, 0, 0, MOST + 1, 28),
+    (false, ZEROES, 1, 0, 4_294_967_295, 28),
+    (false, ZEROES, 4, 0, 4_294_967_295, 22),
     (false, ZEROES, 0, SIZE, 1, 28),
     (false, ZEROES, 3, SIZE - 1, 2, 28),
     (false, ZEROES, 0, 18_446_744_073_709_551_615, 4096, 28),

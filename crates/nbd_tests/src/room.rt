@@ -9,9 +9,9 @@ use std::test::Fail;
 
 // A disk that says whether room was wanting.
 #[derive(Drop)]
-struct FullDisk {
-    disk: MemDisk,
-    wants: bool,
+pub(crate) struct FullDisk {
+    pub(crate) disk: MemDisk,
+    pub(crate) wants: bool,
 }
 
 impl Disk for FullDisk {

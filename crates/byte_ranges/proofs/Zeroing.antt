@@ -18,7 +18,7 @@ use Rattle.sector_runs.proofs.Adjoining.{data_writes-more}
 use Rattle.byte_ranges.specs.Edges.{HasBack, HasFront, PutsFrontEdge}
 use Rattle.byte_ranges.specs.Ranges.{IsCoverOf, SectorHas}
 use Rattle.byte_ranges.specs.Writes.{FlushesWhere, IsWrittenInPart, LogsOrFails, SplicesInto, WritesRange}
-use Rattle.byte_ranges.specs.Zeros.{FindsEdges, ReadsLast, after_zeros, with_zeros}
+use Rattle.byte_ranges.specs.Zeros.{FindsEdges, ReadsLastEdge, after_zeros, with_zeros}
 use Rattle.byte_ranges.specs.declared.cover.Cover.{Cover}
 use Rattle.byte_ranges.specs.declared.ranges.ByteRange.{ByteRange}
 use Rattle.byte_ranges.specs.declared.splices.Written.{Written}
@@ -245,13 +245,13 @@ back_there told k sector skip n left all front edge long sum within small room h
 -- what reading the last sector says, once what comes before the zeros is there
 pub finds_by : (answer : Bool) (k other : Keying) (r : ByteRange) (cover : Cover) (left : ℕ) (olds mids edge : List ℕ) (old middle new : DiskState) → other ≡ k → IsCoverOf k r cover → cover.skip + r.count + left ≡ cover.whole
     → cover.skip ≤ length olds → k.sectorsize ≤ 65536 → length edge ≡ 65536 → PutsFrontEdge k cover.first cover.skip olds mids true old middle
-    → ReadsLast other (cover.first + (cover.count - 1)) left edge answer middle new → FindsEdges k r cover left olds mids edge answer old new
+    → ReadsLastEdge other (cover.first + (cover.count - 1)) left edge answer middle new → FindsEdges k r cover left olds mids edge answer old new
 finds_by true k other r cover left olds mids edge old middle new same is sum within small room front last =
     let zeros : List ℕ = replicate cover.whole 0 in
     let here : List ℕ = take cover.skip mids in
     let long : length here ≡ cover.skip = length-take-le cover.skip mids (omega (arith, front.1.size, within)) in
-    let last_is : ReadsLast k (cover.first + (cover.count - 1)) left edge true middle new =
-    subst (λ (key : Keying). ReadsLast key (cover.first + (cover.count - 1)) left edge true middle new) same last in (
+    let last_is : ReadsLastEdge k (cover.first + (cover.count - 1)) left edge true middle new =
+    subst (λ (key : Keying). ReadsLastEdge key (cover.first + (cover.count - 1)) left edge true middle new) same last in (
       front.1.size,
       front.1.rest,
       spliced k r cover zeros (here ++ replicate (cover.whole - cover.skip) 0) (with_zeros cover.whole here (after_zeros k left edge)) old middle new is (length-replicate cover.whole 0)
@@ -264,8 +264,8 @@ finds_by false k other r cover left olds mids edge old middle new same is sum wi
     let long : length here ≡ cover.skip = length-take-le cover.skip mids (omega (arith, front.1.size, within)) in
     let between : List ℕ = here ++ replicate (cover.whole - cover.skip) 0 in
     let whole : length between ≡ cover.whole = length-append here (replicate (cover.whole - cover.skip) 0) ∙ omega (arith, long, length-replicate {A = ℕ} (cover.whole - cover.skip) 0, sum) in
-    let last_is : ReadsLast k (cover.first + (cover.count - 1)) left edge false middle new =
-    subst (λ (key : Keying). ReadsLast key (cover.first + (cover.count - 1)) left edge false middle new) same last in
+    let last_is : ReadsLastEdge k (cover.first + (cover.count - 1)) left edge false middle new =
+    subst (λ (key : Keying). ReadsLastEdge key (cover.first + (cover.count - 1)) left edge false middle new) same last in
     no_back k r cover zeros between between old middle new is (length-replicate cover.whole 0)
     (front.0, front_there old.content k cover.first cover.skip cover.whole olds mids within (omega (arith, sum)) front.1)
     (omega (arith, whole, sum, last_is.0), last_is.1)

@@ -17,9 +17,9 @@ abbrev pub after_zeros : Keying → ℕ → List ℕ → List ℕ
 after_zeros k left edge = take left (drop (k.sectorsize - left) edge)
 
 -- the last sector was read, if some of its bytes come after the zeros
-abbrev pub ReadsLast : Keying → ℕ → ℕ → List ℕ → Bool → DiskState → DiskState → Type 0
-ReadsLast k sector left edge true old new = Logs [] old new × (0 < left → IfSome old.content (λ c. SectorHas k c sector (take k.sectorsize edge)))
-ReadsLast k sector left edge false old new = (0 < left) × EdgeFails k sector old new
+abbrev pub ReadsLastEdge : Keying → ℕ → ℕ → List ℕ → Bool → DiskState → DiskState → Type 0
+ReadsLastEdge k sector left edge true old new = Logs [] old new × (0 < left → IfSome old.content (λ c. SectorHas k c sector (take k.sectorsize edge)))
+ReadsLastEdge k sector left edge false old new = (0 < left) × EdgeFails k sector old new
 
 -- what stands beside the zeros is known: what comes before them is at the beginning of the room, and what comes after
 -- them is in the last sector

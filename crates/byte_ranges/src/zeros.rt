@@ -5,7 +5,7 @@ ghost use Rattle.sector_runs.specs.Writing.{data_writes};
 ghost use Rattle.sealing.specs.Sectors.{units};
 ghost use Rattle.byte_ranges.specs.Ranges.{IsCoverOf, IsInside};
 ghost use Rattle.byte_ranges.specs.Writes.{LogsOrFails, WritesRange};
-ghost use Rattle.byte_ranges.specs.Zeros.{FindsEdges, ReadsLast, after_zeros, with_zeros};
+ghost use Rattle.byte_ranges.specs.Zeros.{FindsEdges, ReadsLastEdge, with_zeros};
 
 use crate::cover::Cover;
 use crate::ranges::ByteRange;
@@ -18,7 +18,7 @@ fn read_last<D: Disk>(provider: &mut Provider<D>, edge: &mut [u8], sector: u64, 
     requires edge { length edge.old ≡ 65536 }
     requires wide { 512 ≤ provider.old.keying.sectorsize }
     requires inside { sector + 1 ≤ media provider.old.keying (D.state provider.old.disk) }
-    ensures reads { ReadsLast provider.old.keying sector left edge.new result (D.state provider.old.disk) (D.state provider.new.disk) }
+    ensures reads { ReadsLastEdge provider.old.keying sector left edge.new result (D.state provider.old.disk) (D.state provider.new.disk) }
     ensures asked { (D.state provider.new.disk).reads ≤ (D.state provider.old.disk).reads + units provider.old.keying }
     ensures unasked { left ≡ 0 → (D.state provider.new.disk).reads ≡ (D.state provider.old.disk).reads }
     ensures kept { IsKept provider.old provider.new }
@@ -120,8 +120,8 @@ fn write_rest<D: Disk>(
     write_sectors(provider, first, count, sectors)
 }
 
-// Writes zeros to sectors, in pieces of as many as `sectors` holds: `skip` bytes stand there, which come before the
-// zeros, and else zeros. `back` comes after the zeros.
+// Writes the sectors of a range of zeros, in pieces of as many as `sectors` has. Those begin with the bytes that come
+// before the zeros, and else have zeros; `back` comes after the zeros.
 fn write_pieces<D: Disk>(
     provider: &mut Provider<D>,
     sectors: &mut [u8],

@@ -789,7 +789,8 @@ class Keeper:
 
     def stays(self):
         """Whether the mount of a program that has ended is still on the folder, where it stays until -u."""
-        return bool(self.program and not self.program.runs() and self.number and mount_of(self.folder) == self.number)
+        return bool(self.program and not self.program.runs() and self.state.text(self.state.up)
+                    and mount_of(self.folder) == self.number)
 
     def is_clean(self):
         """Whether the filesystem says of itself that it was unmounted in order."""
@@ -802,7 +803,9 @@ class Keeper:
 
     def unmount_filesystem(self):
         """Waits for the end of all programs over the device, and of the kernel's loop. One that mounts only now, since
-        the keeper was killed, is unmounted, and so is what is left of one whose end nobody has seen."""
+        the keeper was killed, is unmounted, and so is what is left of one whose end nobody has seen, or that was killed
+        before it was noted that it has mounted."""
+        self.number = self.number or number_over(self.state.nbd, self.folder)
         while (is_used(self.state.files) or self.must_go()
                or ("K" in self.options and loops_over(self.state.nbd))):
             self.number = self.number or mount_of(self.folder)

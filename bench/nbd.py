@@ -1,6 +1,6 @@
 #!/usr/bin/env python3
-"""The time of work through geli-nbd, beside nbdkit's filter `luks` with and without AES instructions, and beside its
-plain file.
+"""The time of work through geli-nbd, beside nbdkit's filter `luks` with and without AES instructions, beside its plain
+file, and of files beside gocryptfs, which enciphers each by itself.
 
     python3 bench/nbd.py GELI FOLDER TURNS NAME=GELI-NBD...
 
@@ -14,7 +14,7 @@ AES-XTS of 256 bits, sectors of 4,096 bytes here and of 512 there. nbdcopy and n
 examples/nbd_bridge.py runs the server, or nbdfuse in the rows that say so, and fuse2fs mounts an ext4 as
 mount-provider.sh makes it. Parts of sectors LUKS takes only behind nbdkit's filter `blocksize`. What goes in is flushed
 within the time, and what comes out is compared in the first turn. It needs nbdkit, libnbd's programs with nbdsh,
-qemu-img, fuse2fs, and python3 with pyfuse3 and libnbd's module.
+qemu-img, fuse2fs, gocryptfs, and python3 with pyfuse3 and libnbd's module.
 """
 import contextlib
 import os
@@ -121,6 +121,29 @@ class Nbdkit:
         path.unlink(missing_ok=True)
 
 
+class Gocryptfs:
+    """gocryptfs over a folder of the same file system, with the AES instructions. It is no device."""
+
+    def __init__(self, folder):
+        self.folder, self.name = folder, "gocryptfs"
+        self.words = ["-q", "-passfile", folder / "pass", folder / "cipher"]
+
+    def empty(self):
+        cipher = self.folder / "cipher"
+        shutil.rmtree(cipher, ignore_errors=True)
+        cipher.mkdir()
+        run("gocryptfs", "-init", "-scryptn", "10", *self.words)
+
+    @contextlib.contextmanager
+    def mounted(self, files):
+        with subprocess.Popen(["gocryptfs", "-fg", *map(str, self.words), files], stdout=subprocess.DEVNULL) as program:
+            until(lambda: os.path.ismount(files))
+            yield files
+            run("fusermount3", "-u", files)
+        if program.returncode:
+            sys.exit(f"gocryptfs ended with {program.returncode}")
+
+
 def sides(folder, geli, programs):
     (folder / "key").write_bytes(random.randbytes(64))
     (folder / "pass").write_text("a passphrase")
@@ -132,7 +155,7 @@ def sides(folder, geli, programs):
     word = f"passphrase=+{folder}/pass"
     return [*(Geli(folder, name, str(pathlib.Path(program).resolve()), geli) for name, program in programs),
             Nbdkit(folder, "luks without", luks, WITHOUT, word), Nbdkit(folder, "luks with", luks, {}, word),
-            Nbdkit(folder, "file", plain, {})]
+            Nbdkit(folder, "file", plain, {}), Gocryptfs(folder)]
 
 
 def timed(*words):
@@ -189,8 +212,12 @@ def device(side, by):
 
 @contextlib.contextmanager
 def mounted(side, by):
-    """The folder on which the ext4 is mounted; in the end all is flushed."""
+    """The folder on which the ext4 is mounted, or gocryptfs; in the end all is flushed."""
     files = side.folder / "files"
+    if isinstance(side, Gocryptfs):
+        with side.mounted(files):
+            yield files
+        return
     with device(side, by) as nbd:
         with subprocess.Popen(["fuse2fs", "-f", nbd, files, "-o", "fakeroot"], stdout=subprocess.DEVNULL,
                               stderr=subprocess.DEVNULL) as program:
@@ -203,8 +230,11 @@ def mounted(side, by):
 
 def files_in(name, by):
     def of_side(side, _):
-        with device(side, by) as nbd:
-            run(*MAKE, nbd)
+        if isinstance(side, Gocryptfs):
+            side.empty()
+        else:
+            with device(side, by) as nbd:
+                run(*MAKE, nbd)
         with contextlib.ExitStack() as stack:
             files = stack.enter_context(mounted(side, by))
             began = time.perf_counter()
@@ -250,7 +280,13 @@ def rows():
             yield f"{name}, out{how}", files_out(name, by)
 
 
+def takes_part(side, row):
+    return not isinstance(side, Gocryptfs) or ("files" in row and "nbdfuse" not in row)
+
+
 def cell(times):
+    if not times:
+        return ""
     return f"{statistics.median(times):.2f} ({min(times):.2f} to {max(times):.2f})"
 
 
@@ -266,13 +302,13 @@ def main():
         for turn in range(turns):
             order = all_sides[turn % len(all_sides):] + all_sides[:turn % len(all_sides)]
             for name, work in wanted:
-                for side in order:
+                for side in (side for side in order if takes_part(side, name)):
                     times.setdefault((name, side.name), []).append(work(side, turn == 0))
         print(f"seconds: median of {turns}, least and most")
         print(f"| | {' | '.join(side.name for side in all_sides)} |")
         print("|---" * (len(all_sides) + 1) + "|")
         for name, _ in wanted:
-            print(f"| {name} | {' | '.join(cell(times[name, side.name]) for side in all_sides)} |")
+            print(f"| {name} | {' | '.join(cell(times.get((name, side.name))) for side in all_sides)} |")
     finally:
         shutil.rmtree(folder)
 
